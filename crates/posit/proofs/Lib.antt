@@ -1,0 +1,6 @@
+-- The laws of the definitions, over the exponent size, the number of digits, the base and the count; and tables of cases that the checker computes.
+pub mod Tail
+pub mod Built
+pub mod Size
+mod Table
+mod Sheet
