@@ -2,5 +2,9 @@
 pub mod Tail
 pub mod Built
 pub mod Size
+pub mod Compare
+pub mod Below
+pub mod Rounding
+pub mod Value
 mod Table
 mod Sheet

@@ -3,7 +3,7 @@
 use mathlib.Core.Path.{_≡_, refl, sym, ap, _∙_, subst}
 use mathlib.Core.Bool.{Bool, true, false}
 use Prim.Native.Nat.{ℕ, zero, suc, _+_, _-_, _*_, _^_, _≤_, _<_, zero-le}
-use native.Mathlib.Nat.{add-zero, zero-add, add-suc, suc-add, add-assoc, mul-one, one-mul, zero-mul, mul-zero, mul-suc, mul-add, mul-assoc, pow-suc, pow-succ' as pow-suc', mul-le-mul-left, mul-le-mul-right, mul-pos, le-trans, lt-trans, le-refl}
+use native.Mathlib.Nat.{add-zero, zero-add, add-suc, suc-add, add-assoc, mul-one, one-mul, zero-mul, mul-zero, mul-suc, mul-add, mul-assoc, pow-suc, pow-succ' as pow-suc', mul-le-mul-left, mul-le-mul-right, mul-pos, le-trans, lt-trans, le-of-lt, le-refl}
 use native.Mathlib.Numerals.{add-one}
 use native.Mathlib.Decide.{decLt}
 use native.Mathlib.Omega.{arith}
@@ -119,7 +119,24 @@ module _ (es u : ℕ) where
           let e : b ≡ c = omega arith in
           rw e (step c (omega arith) l)
 
--- one digit 0 more at the end
+  pub size-le : (w : ℕ) → least es w ≤ u → (b c : ℕ) → 0 < b → b ≤ c → c < 2 ^ w → size es w u b ≤ size es w u c
+  size-le w h b c z k l = go (decLt b c)
+    where
+      go : Dec (b < c) → size es w u b ≤ size es w u c
+      go (yes q) = le-of-lt (size-lt w h b c z q l)
+      go (no q) =
+          let e : b ≡ c = omega arith in
+          rw e (le-refl (size es w u c))
+
+  -- and so the pattern grows with the size
+  pub size-lt-back : (w : ℕ) → least es w ≤ u → (b c : ℕ) → 0 < c → b < 2 ^ w → size es w u b < size es w u c → b < c
+  size-lt-back w h b c z k l = go (decLt b c)
+    where
+      go : Dec (b < c) → b < c
+      go (yes q) = q
+      go (no q) = absurd (omega (arith, size-le w h c b z (omega arith) k))
+
+-- ---- one digit 0 more at the end
 
 built-double : (o : Bool) (m l t : ℕ) → built o m (suc l) (2 * t) ≡ 2 * built o m l t
 unfolding built

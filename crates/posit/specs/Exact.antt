@@ -1,7 +1,9 @@
--- An exact result before it is rounded (2.1): a size above 0, told without division and without roots, so that it can be compared with any whole number of units.
+-- An exact result before it is rounded (2.1): a size above 0, told without division and without roots, so that it can be compared with any
+-- whole number v of units: a quotient by cross multiplication, a root by comparing squares.
 use mathlib.Core.Bool.{Bool}
-use Prim.Native.Nat.{ℕ, _*_, _<_}
-use lib.Dec.{leb, ltb, T}
+use mathlib.Core.Path.{_≡_}
+use Prim.Native.Nat.{ℕ, _*_, _≤_, _<_}
+use lib.Dec.{leb, ltb}
 
 -- x units; x / y units; the number of units whose square is x
 pub data Exact : Type 0 where
@@ -15,27 +17,33 @@ Sound (whole x) = 0 < x
 Sound (ratio x y) = (0 < x) × (0 < y)
 Sound (root x) = 0 < x
 
--- v units or more: a quotient by cross multiplication, a root by comparing squares
+-- to compare with v units, `told` of v is compared with `bound`
+abbrev pub bound : Exact → ℕ
+bound (whole x) = x
+bound (ratio x y) = x
+bound (root x) = x
+
+abbrev pub told : Exact → ℕ → ℕ
+told (whole x) v = v
+told (ratio x y) v = v * y
+told (root x) v = v * v
+
+-- v units or more; more than v units: as tests
 abbrev pub atLeast : Exact → ℕ → Bool
-atLeast (whole x) v = leb v x
-atLeast (ratio x y) v = leb (v * y) x
-atLeast (root x) v = leb (v * v) x
+atLeast x v = leb (told x v) (bound x)
 
--- more than v units
 abbrev pub above : Exact → ℕ → Bool
-above (whole x) v = ltb v x
-above (ratio x y) v = ltb (v * y) x
-above (root x) v = ltb (v * v) x
+above x v = ltb (told x v) (bound x)
 
--- the same as facts: x is v or more, more than v, less than v, just v
+-- and as facts, with fewer than v units and just v units
 abbrev pub AtLeast : Exact → ℕ → Type 0
-AtLeast x v = T (atLeast x v)
+AtLeast x v = told x v ≤ bound x
 
 abbrev pub Above : Exact → ℕ → Type 0
-Above x v = T (above x v)
+Above x v = told x v < bound x
 
 abbrev pub Under : Exact → ℕ → Type 0
-Under x v = AtLeast x v → ⊥
+Under x v = bound x < told x v
 
 abbrev pub Just : Exact → ℕ → Type 0
-Just x v = AtLeast x v × (Above x v → ⊥)
+Just x v = told x v ≡ bound x

@@ -1,7 +1,7 @@
 -- A pattern and its value (1). A posit has es digits of exponent and w digits below its sign: 2 and 31 for P32E2, 0 and 7 for P8E0.
 -- A pattern is a number below 2 ^ (w + 1). A size is a value without its sign, and counts units of 2 ^ - u for a u that each use names.
 use mathlib.Core.Bool.{Bool, true, false, cond}
-use Prim.Native.Nat.{ℕ, zero, suc, _+_, _-_, _*_, _/_, _%_, _^_}
+use Prim.Native.Nat.{ℕ, zero, suc, _+_, _-_, _*_, _/_, _%_, _^_, _<_}
 use lib.IntN.{ℤ, pos, negsuc, negℤ}
 use lib.Dec.{ltb, eqb}
 
@@ -21,7 +21,11 @@ isNegative w p = ltb (nar w) p
 unfoldable pub unsigned : ℕ → ℕ → ℕ
 unsigned w p = cond (isNegative w p) (opposite w p) p
 
--- The parts of a pattern b above 0 with its sign off.
+-- (1.3) the pattern of a posit above 0
+abbrev pub Positive : ℕ → ℕ → Type 0
+Positive w b = (0 < b) × (b < 2 ^ w)
+
+-- The parts of a pattern b above 0, or with its sign off.
 
 -- (1.4) how many of the w digits of b, from the top, are d
 unfoldable pub run : ℕ → ℕ → ℕ → ℕ

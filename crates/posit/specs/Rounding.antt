@@ -6,7 +6,7 @@ use mathlib.Core.Logic.{_⊎_}
 use Prim.Native.Nat.{ℕ, zero, suc, _+_, _-_, _*_, _%_, _^_, _<_}
 use lib.IntN.{ℤ, pos, negsuc}
 use lib.Dec.{eqb}
-use Rattle.posit.specs.Pattern.{size, opposite}
+use Rattle.posit.specs.Pattern.{Positive, size, opposite}
 use Rattle.posit.specs.Exact.{Exact, whole, atLeast, above, Above, Under, Just}
 
 -- (2.4) v, the value of the posit one digit longer, the pattern p followed by 1
@@ -17,11 +17,11 @@ cut es w u p = size es (suc w) u (2 * p + 1)
 
 -- (2.4) x lies between the sizes of p and q, and no posit between those
 pub record Between (es w u : ℕ) (x : Exact) (p q : ℕ) : Type 0 where
-  pub low : 0 < p
-  pub high : q < 2 ^ w
+  pub from : Positive w p
+  pub to : Positive w q
   pub over : Above x (size es w u p)
   pub under : Under x (size es w u q)
-  pub next : (r : ℕ) → 0 < r → r < 2 ^ w → size es w u p < size es w u r → size es w u r < size es w u q → ⊥
+  pub next : (r : ℕ) → Positive w r → size es w u p < size es w u r → size es w u r < size es w u q → ⊥
 
 -- (2.5) below v, or at v with an even pattern
 abbrev pub Down : ℕ → ℕ → ℕ → Exact → ℕ → Type 0
@@ -29,7 +29,7 @@ Down es w u x p = (Under x (cut es w u p)) ⊎ ((Just x (cut es w u p)) × (p % 
 
 pub data Rounds (es w u : ℕ) (x : Exact) : ℕ → Type 0 where
   -- (2.2) an exact pattern is itself
-  itself : (p : ℕ) → 0 < p → p < 2 ^ w → Just x (size es w u p) → Rounds es w u x p
+  itself : (p : ℕ) → Positive w p → Just x (size es w u p) → Rounds es w u x p
   -- (2.3) above the largest size: the largest pattern
   largest : Above x (size es w u (2 ^ w - 1)) → Rounds es w u x (2 ^ w - 1)
   -- (2.3) above 0 and below the smallest size: the smallest pattern, never 0
