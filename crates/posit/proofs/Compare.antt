@@ -8,7 +8,7 @@ use native.Mathlib.Omega.{arith}
 use lib.Dec.{leb, ltb}
 use lib.Pow.{pow-pos}
 use borrow.Author.Tests.{lt-ltb, le-ltb, le-leb, lt-leb}
-use Rattle.posit.specs.Exact.{Exact, whole, ratio, root, Sound, bound, told, atLeast, above}
+use Rattle.posit.specs.Exact.{Exact, whole, ratio, root, Sound, bound, told, atLeast, above, AtLeast, Under}
 
 module _ (x : Exact) (sound : Sound x) where
   pub told-lt : {v z : ℕ} → v < z → told x v < told x z
@@ -85,6 +85,12 @@ module _ (i : ℕ) where
   finer-sound (whole x) s = mul-pos s (pow-pos i)
   finer-sound (ratio x y) s = (mul-pos (s .0) (pow-pos i), s .1)
   finer-sound (root x) s = mul-pos s (mul-pos (pow-pos i) (pow-pos i))
+
+  pub finer-at-least : (x : Exact) (v : ℕ) → AtLeast x v → AtLeast (finer i x) (v * 2 ^ i)
+  finer-at-least x v h = rw (finer-told x v, finer-bound x) (mul-le-mul-right (factor i x) h)
+
+  pub finer-under : (x : Exact) (v : ℕ) → Under x v → Under (finer i x) (v * 2 ^ i)
+  finer-under x v h = rw (finer-told x v, finer-bound x) (mul-lt-mul-of-pos-right h (factor-pos x))
 
   pub finer-least : (x : Exact) (v : ℕ) → atLeast (finer i x) (v * 2 ^ i) ≡ atLeast x v
   finer-least x v = rw (finer-told x v, finer-bound x) (leb-factor (told x v) (bound x) (factor i x) (factor-pos x))

@@ -5,6 +5,11 @@ pub mod Size
 pub mod Compare
 pub mod Below
 pub mod Rounding
+pub mod LongPattern
+pub mod Unit
 pub mod Value
+pub mod Digits
+pub mod Complement
 mod Table
 mod Sheet
+mod Vectors

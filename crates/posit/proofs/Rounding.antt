@@ -37,15 +37,15 @@ module _ (es w u : ℕ) (fine : least es (suc w) ≤ u) where
       (size-lt es u (suc w) fine (2 * p) (2 * p + 1) (omega arith) (omega arith) (omega (arith, pow-suc 2 w)))
 
   module _ (x : Exact) (p : ℕ) where
-    nearer-up : Above x (cut es w u p) → nearer es w u x p ≡ suc p
+    pub nearer-up : Above x (cut es w u p) → nearer es w u x p ≡ suc p
     unfolding nearer
     nearer-up h = rw (lt-ltb (told x (cut es w u p)) (bound x) h)
 
-    nearer-tie : Just x (cut es w u p) → nearer es w u x p ≡ p + p % 2
+    pub nearer-tie : Just x (cut es w u p) → nearer es w u x p ≡ p + p % 2
     unfolding nearer
     nearer-tie h = rw (le-ltb (told x (cut es w u p)) (bound x) (omega arith), le-leb (told x (cut es w u p)) (bound x) (omega arith))
 
-    nearer-down : Under x (cut es w u p) → nearer es w u x p ≡ p
+    pub nearer-down : Under x (cut es w u p) → nearer es w u x p ≡ p
     unfolding nearer
     nearer-down h = rw (le-ltb (told x (cut es w u p)) (bound x) (omega arith), lt-leb (told x (cut es w u p)) (bound x) h)
 
@@ -54,11 +54,11 @@ module _ (es w u : ℕ) (fine : least es (suc w) ≤ u) where
     below-is : {p : ℕ} → Brackets es w u x p → below es w u x ≡ p
     below-is b = bracket-one es w u x sound fine-here (below-brackets es w u x) b
 
-    at-none : Brackets es w u x 0 → round es w u x ≡ 1
+    pub at-none : Brackets es w u x 0 → round es w u x ≡ 1
     unfolding round
     at-none b = rw (below-is b)
 
-    at-last : 0 < w → Brackets es w u x (2 ^ w - 1) → round es w u x ≡ 2 ^ w - 1
+    pub at-last : 0 < w → Brackets es w u x (2 ^ w - 1) → round es w u x ≡ 2 ^ w - 1
     unfolding round
     at-last z b = rw (below-is b, ne-eqb (2 ^ w - 1) 0 (λ e. omega (arith, pow-mono z)), eq-eqb (2 ^ w - 1) (2 ^ w - 1) refl)
 

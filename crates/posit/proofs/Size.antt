@@ -197,3 +197,13 @@ module _ (es u : ℕ) where
       by-shape (λ w b. least es w ≤ u → 0 < size es w u b)
       (λ w h. rw (size-ones es w u) (pow-pos (u + 2 ^ es * w)))
       (λ o m l t k h. rw (size-built o l t k m es u) (mul-pos (omega (arith, pow-pos l)) (pow-pos _)))
+
+has-digits : (w b : ℕ) → 0 < b → b < 2 ^ w → 0 < w
+has-digits zero b z k = omega arith
+has-digits (suc w) b z k = omega arith
+
+-- every size is a whole number of the smallest one
+pub size-whole : (es u w b : ℕ) → 0 < b → b < 2 ^ w → least es w ≤ u → size es w u b ≡ size es w (least es w) b * size es w u 1
+size-whole es u w b z k h =
+    let e : least es w + (u - least es w) ≡ u = omega arith in
+    rw (smallest-size es u w (has-digits w b z k) h) (rw e at (size-unit es (least es w) (u - least es w) w b z k (le-refl (least es w))))

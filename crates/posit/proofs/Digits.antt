@@ -1,0 +1,56 @@
+-- Digits to any base B above 0 and of any count: how many there are and how large, and that digits and number undo each other. Digits and their number
+-- meet at the first digit: what stands above the digits that are asked for does not matter (`digits-past`).
+use mathlib.Core.Path.{_≡_, refl, sym, ap, _∙_}
+use mathlib.Core.List.{List, [], _∷_}
+use Prim.Native.Nat.{ℕ, zero, suc, _+_, _*_, _/_, _%_, _^_, _<_}
+use native.Mathlib.Nat.{mul-assoc, pow-zero, pow-succ' as pow-suc', pow-suc, mod-lt, mod-one, mod-eq-of-lt, div-add-mod', mul-add-div-right, mul-add-mod-self-right, mul-pos}
+use native.Mathlib.Omega.{arith}
+use lib.Arith.{digits-lt, digits-div, digits-mod}
+use lib.ListN.{length}
+use Rattle.posit.specs.Digits.{digits, number, Below}
+
+pub length-digits : (B c n : ℕ) → length (digits B c n) ≡ c
+unfolding digits
+length-digits B zero n = refl
+length-digits B (suc c) n = ap suc (length-digits B c n)
+
+pub number-lt : (B : ℕ) (ds : List ℕ) → Below B ds → number B ds < B ^ length ds
+unfolding number
+number-lt B [] h = rw pow-zero (omega arith)
+number-lt B (d ∷ ds) h = rw pow-suc' (digits-lt (h .0) (number-lt B ds (h .1)))
+
+module _ (B : ℕ) (base : 0 < B) where
+  power-pos : (c : ℕ) → 0 < B ^ c
+  power-pos zero = rw pow-zero (omega arith)
+  power-pos (suc c) = rw pow-suc (mul-pos (power-pos c) base)
+
+  pub below-digits : (c n : ℕ) → Below B (digits B c n)
+  unfolding digits
+  below-digits zero n = tt
+  below-digits (suc c) n = (mod-lt (n / B ^ c) base, below-digits c n)
+
+  digits-past : (c q v : ℕ) → digits B c (q * B ^ c + v) ≡ digits B c v
+  unfolding digits
+  digits-past zero q v = refl
+  digits-past (suc c) q v =
+      let e : q * B ^ suc c ≡ q * B * B ^ c = rw pow-suc' (sym (mul-assoc q B (B ^ c))) in
+      rw (e, mul-add-div-right {m = B ^ c} (power-pos c) (q * B) v, mul-add-mod-self-right, digits-past c (q * B) v)
+
+  -- the digits of a number that digits make up are those digits
+  pub digits-number : (ds : List ℕ) → Below B ds → digits B (length ds) (number B ds) ≡ ds
+  unfolding digits number
+  digits-number [] h = refl
+  digits-number (d ∷ ds) h =
+      rw (digits-div d (number-lt B ds (h .1)), mod-eq-of-lt (h .0), digits-past (length ds) d (number B ds), digits-number ds (h .1))
+
+  -- one digit more
+  mod-more : (P n : ℕ) → 0 < P → n / P % B * P + n % P ≡ n % (B * P)
+  mod-more P n h =
+      let e : n ≡ n / P / B * (B * P) + (n / P % B * P + n % P) = omega (arith, div-add-mod' n P, ap (λ (t : ℕ). t * P) (div-add-mod' (n / P) B)) in
+      sym (ap (λ (t : ℕ). t % (B * P)) e ∙ digits-mod (n / P / B) (digits-lt (mod-lt (n / P) base) (mod-lt n h)))
+
+  -- the number of c digits is the number that they were taken from, as far as c digits reach
+  pub number-digits : (c n : ℕ) → number B (digits B c n) ≡ n % B ^ c
+  unfolding digits number
+  number-digits zero n = rw pow-zero (sym (mod-one n))
+  number-digits (suc c) n = rw (length-digits B c n, number-digits c n, pow-suc') (mod-more (B ^ c) n (power-pos c))
