@@ -1,11 +1,16 @@
 -- The bench sheet's first twelve cases, as instances of the definitions at P32E2, in one table under one claim that the checker computes.
+use mathlib.Core.Bool.{Bool, true, false}
 use mathlib.Core.List.{List, [], _∷_}
 use Prim.Native.Nat.{ℕ}
 use lib.Dec.{eqb, T}
 use Rattle.posit.specs.Operation.{sum, product, quotient, squareRoot, fusedSum, fusedDifference}
 use Rattle.posit.specs.Computing.{everything}
-use Rattle.posit.specs.Accumulator.{clear, plus, ofProduct, words}
+use Rattle.posit.specs.Accumulator.{clear, isClear, plus, ofProduct, words}
 use Rattle.posit.proofs.Table.{Case, is, are, holds}
+
+abbrev toNumber : Bool → ℕ
+toNumber true = 1
+toNumber false = 0
 
 sheet : List Case
 unfolding everything
@@ -27,8 +32,9 @@ sheet =
     ∷ is (fusedSum 2 31 0x40000007 0x42000000 0) 0x42000009
     ∷ is (fusedSum 2 31 0x7fff1000 0x7fff2000 0) 0x7ffffffd
     ∷ is (fusedDifference 2 31 0x40000000 0x40000000 0x40000000) 0
-    -- 12: a total of which only word 6 is not 0
+    -- 12: a total of which only word 6 is not 0, and which is not zero
     ∷ are (words 512 (plus 512 clear (ofProduct 2 31 0x100 0x100))) (0 ∷ 0 ∷ 0 ∷ 0 ∷ 0 ∷ 0 ∷ 1 ∷ 0 ∷ [])
+    ∷ is (toNumber (isClear (plus 512 clear (ofProduct 2 31 0x100 0x100)))) 0
     ∷ []
 
 sheet-holds : T (holds sheet)

@@ -17,6 +17,16 @@ pub data State : Type 0 where
 abbrev pub clear : State
 clear = total (pos 0)
 
+-- (4.2) the questions `is_nar` and `is_zero`
+unfoldable pub isNotReal : State → Bool
+isNotReal notReal = true
+isNotReal (total t) = false
+
+unfoldable pub isClear : State → Bool
+isClear notReal = false
+isClear (total (pos n)) = eqb n 0
+isClear (total (negsuc n)) = false
+
 -- (4.3) what a posit, or the exact product of two, brings to a step: NaR from a NaR operand
 module _ (es w : ℕ) where
   -- (4.5) also the state that is made from a posit
