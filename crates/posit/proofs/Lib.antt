@@ -7,6 +7,7 @@ pub mod Below
 pub mod Rounding
 pub mod LongPattern
 pub mod Unit
+pub mod Packing
 pub mod Value
 pub mod Digits
 pub mod Complement

@@ -46,15 +46,16 @@ only-ones (suc m) = rw (only-ones m, add-one m) (omega (arith, pow-suc 2 (suc m)
 power : {a b : ℕ} → a ≡ b → 2 ^ a ≡ 2 ^ b
 power e = ap (λ (x : ℕ). 2 ^ x) e
 
-scale : ℕ → ℕ → Bool → ℕ → ℕ
+-- with the digit o, of which there are m + 1
+unfoldable pub scale : ℕ → ℕ → Bool → ℕ → ℕ
 scale es u o m = raised es u (regimeOf (bit o) (suc m))
 
 module _ (es u : ℕ) where
-  scale-ones : (m : ℕ) → scale es u true m ≡ u + 2 ^ es * m
+  pub scale-ones : (m : ℕ) → scale es u true m ≡ u + 2 ^ es * m
   unfolding scale
   scale-ones m = ap (λ (k : ℕ). u + 2 ^ es * k) (omega arith)
 
-  scale-zeros : (m : ℕ) → scale es u false m ≡ u - 2 ^ es * suc m
+  pub scale-zeros : (m : ℕ) → scale es u false m ≡ u - 2 ^ es * suc m
   unfolding scale
   scale-zeros m = refl
 
@@ -64,7 +65,7 @@ module _ (es u : ℕ) where
       let e : suc m + suc l - 1 ≡ suc m + l = omega arith in
       rw (← mul-add) (rw e at h)
 
-  digits-fit : (o : Bool) (m l : ℕ) → least es (suc m + suc l) ≤ u → l ≤ scale es u o m
+  pub digits-fit : (o : Bool) (m l : ℕ) → least es (suc m + suc l) ≤ u → l ≤ scale es u o m
   digits-fit true m l h = rw scale-ones (omega (arith, room m l h, mul-le-mul-right l (pow-pos es)))
   digits-fit false m l h = rw scale-zeros (omega (arith, room m l h, mul-le-mul-right l (pow-pos es)))
 
@@ -85,7 +86,7 @@ module _ (es u : ℕ) where
       rw (shorter-run (suc m) l, width) (bare false m (suc l) (rw width at h) ∙ power (omega (arith, scale-zeros m, scale-zeros (suc m), room (suc m) l h)))
 
   -- the next pattern's size is what the next number in the place of t would give
-  next-built : (o : Bool) (m l t : ℕ) → t < 2 ^ l → least es (suc m + suc l) ≤ u
+  pub next-built : (o : Bool) (m l t : ℕ) → t < 2 ^ l → least es (suc m + suc l) ≤ u
       → size es (suc m + suc l) u (suc (built o (suc m) l t)) ≡ tail es (scale es u o m) l (suc t)
   unfolding scale
   next-built o m l t k h = go (decLt (suc t) (2 ^ l))

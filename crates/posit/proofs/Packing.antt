@@ -1,0 +1,74 @@
+-- A size told as a significand and a scale, and the pattern it is rounded to: the run that the scale gives, the exponent's digits and the fraction's make up a
+-- long pattern, to which the long-pattern law applies. The significand may stop short of x, if x lies below the next one: what is left goes into the sticky bit.
+use mathlib.Core.Path.{_≡_, ap, _∙_}
+use mathlib.Core.Bool.{Bool, _||_}
+use Prim.Native.Nat.{ℕ, suc, _+_, _-_, _*_, _/_, _%_, _^_, _≤_, _<_}
+use native.Mathlib.Nat.{mul-comm, pow-suc, mul-lt-mul-of-pos-right}
+use native.Mathlib.Decide.{decLt}
+use native.Mathlib.Omega.{arith}
+use lib.Dec.{ltb}
+use lib.Arith.{digits-lt, digits-div, digits-mod}
+use lib.Pow.{pow-pos, pow-add}
+use Rattle.posit.specs.Pattern.{size, least}
+use Rattle.posit.specs.Exact.{Exact, Sound, bound, told, above, AtLeast, Under}
+use Rattle.posit.specs.Rounding.{round}
+use Rattle.posit.proofs.Tail.{tail}
+use Rattle.posit.proofs.Built.{built, built-lt, size-built}
+use Rattle.posit.proofs.Size.{scale, digits-fit, next-built}
+use Rattle.posit.proofs.Below.{Brackets}
+use Rattle.posit.proofs.LongPattern.{halfEven, clamped, long-pattern}
+
+-- es digits e and n digits f behind the run
+parts-below : (es n e f : ℕ) → e < 2 ^ es → f < 2 ^ n → e * 2 ^ n + f < 2 ^ (es + n)
+parts-below es n e f h k = rw pow-add (digits-lt h k)
+
+tail-parts : (es s n e f : ℕ) → es + n ≤ s → f < 2 ^ n → tail es s (es + n) (e * 2 ^ n + f) ≡ (2 ^ n + f) * 2 ^ (s + e - n)
+tail-parts es s n e f h k =
+    let shifted : (e * 2 ^ n + f) * 2 ^ es ≡ e * 2 ^ (es + n) + f * 2 ^ es = rw (pow-add 2 es n) (omega arith) in
+    let small : f * 2 ^ es < 2 ^ (es + n) = rw (pow-add 2 es n, mul-comm (2 ^ es) (2 ^ n)) (mul-lt-mul-of-pos-right k (pow-pos es)) in
+    let power : s + e - n ≡ es + (s + e - (es + n)) = omega arith in
+    rw (shifted, digits-div e small, digits-mod e small, power, pow-add 2 es (s + e - (es + n)), pow-add 2 es n) (omega arith)
+
+tail-parts-next : (es s n e f : ℕ) → es + n ≤ s → f < 2 ^ n → tail es s (es + n) (suc (e * 2 ^ n + f)) ≡ (2 ^ n + suc f) * 2 ^ (s + e - n)
+tail-parts-next es s n e f h k = go (decLt (suc f) (2 ^ n))
+  where
+    go : Dec (suc f < 2 ^ n) → tail es s (es + n) (suc (e * 2 ^ n + f)) ≡ (2 ^ n + suc f) * 2 ^ (s + e - n)
+    go (yes l) = ap (tail es s (es + n)) (omega arith) ∙ tail-parts es s n e (suc f) h l
+    go (no l) =
+        let last : suc f ≡ 2 ^ n = omega arith in
+        let carried : suc (e * 2 ^ n + f) ≡ suc e * 2 ^ n + 0 = omega arith in
+        let power : s + suc e - n ≡ suc (s + e - n) = omega arith in
+        ap (tail es s (es + n)) carried ∙ tail-parts es s n (suc e) 0 h (pow-pos n) ∙ (rw (power, pow-suc, last) (omega arith))
+
+-- x lies from (2 ^ n + f) * 2 ^ a up to the next such number
+pub record Spans (x : Exact) (n f a : ℕ) : Type 0 where
+  pub low : AtLeast x ((2 ^ n + f) * 2 ^ a)
+  pub high : Under x ((2 ^ n + suc f) * 2 ^ a)
+
+module _ (es w j u : ℕ) (o : Bool) (m n e f : ℕ) (width : suc m + suc (es + n) ≡ suc w + j) (fine : least es (suc m + suc (es + n)) ≤ u)
+    (he : e < 2 ^ es) (hf : f < 2 ^ n) (x : Exact) (spans : Spans x n f (scale es u o m + e - n)) where
+  room : es + n ≤ scale es u o m
+  room = digits-fit es u o m (es + n) fine
+
+  long-size : size es (suc m + suc (es + n)) u (built o (suc m) (es + n) (e * 2 ^ n + f)) ≡ (2 ^ n + f) * 2 ^ (scale es u o m + e - n)
+  unfolding scale
+  long-size = size-built o (es + n) (e * 2 ^ n + f) (parts-below es n e f he hf) m es u ∙ tail-parts es (scale es u o m) n e f room hf
+
+  spans-brackets : Brackets es (suc m + suc (es + n)) u x (built o (suc m) (es + n) (e * 2 ^ n + f))
+  spans-brackets =
+      record {
+        short = built-lt o (es + n) (e * 2 ^ n + f) (parts-below es n e f he hf) (suc m);
+        low = λ _. rw long-size (spans .low);
+        high = λ _.
+            rw (next-built es u o m (es + n) (e * 2 ^ n + f) (parts-below es n e f he hf) fine ∙ tail-parts-next es (scale es u o m) n e f room hf)
+            (spans .high);
+      }
+
+  pub packed : Sound x → 0 < w
+      → round es w u x
+      ≡ clamped w
+      (halfEven (built o (suc m) (es + n) (e * 2 ^ n + f) / 2 ^ j)
+      (above x ((2 ^ n + f) * 2 ^ (scale es u o m + e - n)) || ltb 0 (built o (suc m) (es + n) (e * 2 ^ n + f) % 2 ^ j)))
+  packed sound v =
+      rw (← long-size, width)
+      (long-pattern es w j u (rw width at fine) v x sound (built o (suc m) (es + n) (e * 2 ^ n + f)) (rw width at spans-brackets))
