@@ -8,6 +8,7 @@ use native.Mathlib.Decide.{ℕ-discrete}
 use native.Mathlib.Omega.{arith}
 use borrow.Author.Tests.{eq-eqb, ne-eqb}
 use lib.Dec.{eqb, lit<}
+use lib.IntN.{pos}
 use lib.Arith.{digits-lt, digits-mod, lt-one}
 use lib.Pow.{pow-pos, pow-add, low, high, ones-lt}
 use Rattle.posit.specs.Pattern.{run, first, left, regime, regimeOf, exponent, fraction, size, raised}
@@ -39,11 +40,11 @@ other-bit false e = omega arith
 
 -- ---- the run, digit by digit
 
-run-more : (d w b : ℕ) → b / 2 ^ w ≡ d → run d (suc w) b ≡ suc (run d w (b % 2 ^ w))
+pub run-more : (d w b : ℕ) → b / 2 ^ w ≡ d → run d (suc w) b ≡ suc (run d w (b % 2 ^ w))
 unfolding run
 run-more d w b e = rw (eq-eqb (b / 2 ^ w) d e)
 
-run-ends : (d w b : ℕ) → (b / 2 ^ w ≡ d → ⊥) → run d (suc w) b ≡ 0
+pub run-ends : (d w b : ℕ) → (b / 2 ^ w ≡ d → ⊥) → run d (suc w) b ≡ 0
 unfolding run
 run-ends d w b e = rw (ne-eqb (b / 2 ^ w) d e)
 
@@ -104,6 +105,10 @@ run-ones (suc w) =
     run-more 1 w (2 ^ suc w - 1) (first-ones w)
     ∙ ap suc (ap (run 1 w) (ap (λ (b : ℕ). b % 2 ^ w) (ones-more w) ∙ low 1 w (ones-lt w)) ∙ run-ones w)
 
+pub regime-ones : (w : ℕ) → regime (suc w) (2 ^ suc w - 1) ≡ pos w
+unfolding regime
+regime-ones w = rw (suc-sub-one w, first-ones w, run-ones (suc w)) (ap pos (suc-sub-one w))
+
 pub size-ones : (es w u : ℕ) → size es (suc w) u (2 ^ suc w - 1) ≡ 2 ^ (u + 2 ^ es * w)
 unfolding size regime left exponent fraction
 size-ones es w u = rw (suc-sub-one w, first-ones w, run-ones (suc w), suc-sub-one w, sub-self-suc, mod-one (2 ^ suc w - 1)) (tail-none es (u + 2 ^ es * w) 0 zero-le)
@@ -120,15 +125,15 @@ a-bit zero h = (false, refl)
 a-bit (suc zero) h = (true, refl)
 a-bit (suc (suc n)) h = absurd (omega arith)
 
-the-other : (o : Bool) {n : ℕ} → n < 2 → (n ≡ bit o → ⊥) → n ≡ bit (not o)
+pub the-other : (o : Bool) {n : ℕ} → n < 2 → (n ≡ bit o → ⊥) → n ≡ bit (not o)
 the-other true h k = omega arith
 the-other false h k = omega arith
 
-first-lt : (w b : ℕ) → b < 2 ^ suc w → b / 2 ^ w < 2
+pub first-lt : (w b : ℕ) → b < 2 ^ suc w → b / 2 ^ w < 2
 first-lt w b h = div-lt-iff-lt-mul (pow-pos w) .1 (rw pow-suc' at h)
 
 -- one digit n in front of the others
-digit-first : (w b n : ℕ) → b / 2 ^ w ≡ n → b ≡ n * 2 ^ w + b % 2 ^ w
+pub digit-first : (w b n : ℕ) → b / 2 ^ w ≡ n → b ≡ n * 2 ^ w + b % 2 ^ w
 digit-first w b n e = sym (div-add-mod' b (2 ^ w)) ∙ ap (λ (d : ℕ). d * 2 ^ w + b % 2 ^ w) e
 
 split-more : (o : Bool) (w b : ℕ) → b < 2 ^ suc w → Dec (b / 2 ^ w ≡ bit o) → Split o w (b % 2 ^ w) → Split o (suc w) b

@@ -9,6 +9,8 @@ pub mod LongPattern
 pub mod Unit
 pub mod Packing
 pub mod Value
+pub mod Word
+pub mod Parts
 pub mod Digits
 pub mod Complement
 mod Table

@@ -1,0 +1,2 @@
+-- What the constants are worth.
+mod Constants

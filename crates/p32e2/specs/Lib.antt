@@ -1,0 +1,3 @@
+-- What the constants and the answers of this crate are.
+pub mod Constants
+pub mod Unpacked
