@@ -1,3 +1,4 @@
 -- What the constants and the answers of this crate are.
 pub mod Constants
+pub mod Packed
 pub mod Unpacked

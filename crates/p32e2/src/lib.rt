@@ -1,4 +1,6 @@
 // Posits of 32 bits with two exponent digits: the patterns by value, their constants, and a pattern taken apart.
+pub mod pack; // pack.rt: the one rounding
+
 ghost use mathlib.Core.Path.{_≡_};
 ghost use Prim.Native.Nat.{_<_, _^_};
 ghost use lib.Dec.{eqb};

@@ -1,13 +1,11 @@
 -- The greatest pattern whose size is at most x: `below` finds it digit by digit, and there is one only.
-use mathlib.Core.Path.{_≡_, refl}
-use mathlib.Core.Bool.{cond}
-use Prim.Native.Nat.{ℕ, zero, suc, _+_, _-_, _*_, _^_, _≤_, _<_}
+use mathlib.Core.Path.{_≡_}
+use Prim.Native.Nat.{ℕ, zero, suc, _+_, _^_, _≤_, _<_}
 use native.Mathlib.Nat.{pow-suc, le-antisymm}
 use native.Mathlib.Numerals.{add-one}
 use native.Mathlib.Decide.{decLt}
 use native.Mathlib.Omega.{arith}
 use borrow.Author.Tests.{le-leb, lt-leb}
-use lib.Pow.{pow-pos}
 use Rattle.posit.specs.Pattern.{size, least}
 use Rattle.posit.specs.Exact.{Exact, Sound, bound, told, AtLeast, Under}
 use Rattle.posit.specs.Rounding.{search-down, below}

@@ -1,17 +1,18 @@
 -- A pattern by its parts: a run of digits, the digit that ends it, and l digits t. `run`, `left` and the rest of `size` are read off it,
 -- and every pattern above 0 is built so or is all ones (`by-shape`). One law serves runs of ones and of zeros: the digit is a parameter.
 use mathlib.Core.Path.{_≡_, refl, sym, ap, _∙_, subst₂}
-use mathlib.Core.Bool.{Bool, true, false, cond, not}
-use Prim.Native.Nat.{ℕ, zero, suc, _+_, _-_, _*_, _/_, _%_, _^_, _≤_, _<_, zero-le}
-use native.Mathlib.Nat.{add-zero, zero-add, add-suc, suc-add, mul-one, one-mul, mul-add, zero-mul, mul-zero, pow-suc, pow-zero, pow-succ' as pow-suc', mul-assoc, mod-lt, mod-one, div-add-mod', mod-eq-of-lt, div-eq-of-lt, div-lt-iff-lt-mul, add-comm, mul-add-mod-self-right}
+use mathlib.Core.Bool.{Bool, true, false, not}
+use Prim.Native.Nat.{ℕ, zero, suc, _+_, _-_, _*_, _/_, _%_, _^_, _<_, zero-le}
+use native.Mathlib.Nat.{zero-add, add-suc, suc-add, one-mul, mul-add, mul-zero, pow-suc, pow-succ' as pow-suc', mul-assoc, mod-lt, mod-one, div-add-mod', div-lt-iff-lt-mul, mul-add-mod-self-right}
 use native.Mathlib.Decide.{ℕ-discrete}
 use native.Mathlib.Omega.{arith}
 use borrow.Author.Tests.{eq-eqb, ne-eqb}
-use lib.Dec.{eqb, lit<}
+use lib.Dec.{lit<}
 use lib.IntN.{pos}
-use lib.Arith.{digits-lt, digits-mod, lt-one}
+use lib.Arith.{digits-lt, lt-one}
 use lib.Pow.{pow-pos, pow-add, low, high, ones-lt}
 use Rattle.posit.specs.Pattern.{run, first, left, regime, regimeOf, exponent, fraction, size, raised}
+use Rattle.posit.proofs.Arith.{suc-sub-one}
 use Rattle.posit.proofs.Tail.{tail, tail-none}
 
 -- the digit 1 or 0
@@ -23,9 +24,6 @@ bit false = 0
 unfoldable pub built : Bool → ℕ → ℕ → ℕ → ℕ
 built o zero l t = bit (not o) * 2 ^ l + t
 built o (suc m) l t = bit o * 2 ^ (m + suc l) + built o m l t
-
-suc-sub-one : (n : ℕ) → suc n - 1 ≡ n
-suc-sub-one n = omega arith
 
 sub-self-suc : (n : ℕ) → n - suc n ≡ 0
 sub-self-suc n = omega arith

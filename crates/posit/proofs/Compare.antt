@@ -1,8 +1,8 @@
 -- What a size is compared with grows with the number of units, whichever way it is told; and a finer unit changes no comparison.
 use mathlib.Core.Path.{_≡_, refl, sym, ap, _∙_}
 use mathlib.Core.Bool.{not}
-use Prim.Native.Nat.{ℕ, _+_, _*_, _^_, _≤_, _<_}
-use native.Mathlib.Nat.{le-of-lt, lt-of-le-of-lt, le-of-eq, lt-irrefl, mul-le-mul-right, mul-le-mul-left, mul-lt-mul-of-pos-right, mul-assoc, mul-pos}
+use Prim.Native.Nat.{ℕ, _*_, _^_, _≤_, _<_}
+use native.Mathlib.Nat.{le-of-lt, lt-of-le-of-lt, mul-le-mul-right, mul-le-mul-left, mul-lt-mul-of-pos-right, mul-pos}
 use native.Mathlib.Decide.{decLt}
 use native.Mathlib.Omega.{arith}
 use lib.Dec.{leb, ltb}

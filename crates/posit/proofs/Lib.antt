@@ -1,4 +1,5 @@
 -- The laws of the definitions, over the exponent size, the number of digits, the base and the count; and tables of cases that the checker computes.
+pub mod Arith
 pub mod Tail
 pub mod Built
 pub mod Size

@@ -1,10 +1,10 @@
 -- The long-pattern law. Take a pattern of j digits too many whose size is at most x, with x below the next one's. The rounding of x is then told by its digit
 -- string alone: the digits that fit, one more if the first digit cut off is 1 and anything follows it (or, at a tie, to make the last one even),
 -- kept between the smallest and the largest pattern. So no operation reasons about values near a cut: it builds digits and a sticky bit.
-use mathlib.Core.Path.{_≡_, refl, sym, ap, _∙_, subst}
+use mathlib.Core.Path.{_≡_, sym, ap, _∙_, subst}
 use mathlib.Core.Bool.{Bool, true, false, cond, _||_, or-true, or-false}
 use Prim.Native.Nat.{ℕ, zero, suc, _+_, _-_, _*_, _/_, _%_, _^_, _≤_, _<_, min, max}
-use native.Mathlib.Nat.{add-zero, add-suc, mul-one, pow-zero, pow-suc, mul-assoc, mul-comm, mul-left-comm, pow-succ' as pow-suc', mul-pos, mul-lt-mul-of-pos-right, mul-le-mul-left, mul-le-mul-right, le-trans, lt-of-lt-of-le, div-add-mod', mod-lt, div-lt-iff-lt-mul}
+use native.Mathlib.Nat.{add-zero, add-suc, mul-one, pow-suc, mul-left-comm, pow-succ' as pow-suc', mul-pos, mul-lt-mul-of-pos-right, mul-le-mul-left, le-trans, lt-of-lt-of-le, div-add-mod', mod-lt}
 use native.Mathlib.Numerals.{add-one}
 use native.Mathlib.Decide.{decLt, ℕ-discrete}
 use native.Mathlib.Omega.{arith}
@@ -89,20 +89,20 @@ module _ (es w j u : ℕ) (fine : least es (w + j) ≤ u) (x : Exact) (sound : S
 
 -- ---- the last digit
 
-even-stays : (h : ℕ) (more : Bool) → h % 2 ≡ 0 → halfEven h more ≡ h / 2
+pub even-stays : (h : ℕ) (more : Bool) → h % 2 ≡ 0 → halfEven h more ≡ h / 2
 unfolding halfEven
 even-stays h more e = rw (eq-eqb (h % 2) 0 e)
 
-more-goes-up : (h : ℕ) → h % 2 ≡ 1 → halfEven h true ≡ suc (h / 2)
+pub more-goes-up : (h : ℕ) → h % 2 ≡ 1 → halfEven h true ≡ suc (h / 2)
 unfolding halfEven
 more-goes-up h e = rw (ne-eqb (h % 2) 0 (λ d. omega arith))
 
-tie-goes-even : (h : ℕ) → h % 2 ≡ 1 → halfEven h false ≡ h / 2 + h / 2 % 2
+pub tie-goes-even : (h : ℕ) → h % 2 ≡ 1 → halfEven h false ≡ h / 2 + h / 2 % 2
 unfolding halfEven
 tie-goes-even h e = rw (ne-eqb (h % 2) 0 (λ d. omega arith))
 
 -- one of two neighbours
-near : (h : ℕ) (more : Bool) → (h / 2 ≤ halfEven h more) × (halfEven h more ≤ suc (h / 2))
+pub near : (h : ℕ) (more : Bool) → (h / 2 ≤ halfEven h more) × (halfEven h more ≤ suc (h / 2))
 near h more = go (ℕ-discrete (h % 2) 0) more
   where
     go : Dec (h % 2 ≡ 0) → (more : Bool) → (h / 2 ≤ halfEven h more) × (halfEven h more ≤ suc (h / 2))

@@ -1,16 +1,15 @@
 -- The rounding function meets the relation (`round-meets`), and the relation has no other answer (`round-only`): both by the pattern just below x, of
 -- which there is one. From the second, a pattern's own size is rounded to the pattern (`round-own`).
-use mathlib.Core.Path.{_≡_, refl, sym, ap, _∙_, subst}
-use mathlib.Core.Bool.{Bool, true, false, cond}
-use mathlib.Core.Logic.{_⊎_, inl, inr, ⊎-elim}
-use Prim.Native.Nat.{ℕ, zero, suc, _+_, _-_, _*_, _%_, _^_, _≤_, _<_}
+use mathlib.Core.Path.{_≡_, refl, sym, _∙_, subst}
+use mathlib.Core.Logic.{inl, inr, ⊎-elim}
+use Prim.Native.Nat.{ℕ, suc, _+_, _-_, _*_, _%_, _^_, _≤_, _<_}
 use native.Mathlib.Nat.{pow-suc, le-trans, mul-le-mul-left, lt-trans, le-of-lt}
 use native.Mathlib.Decide.{decLt, ℕ-discrete}
 use native.Mathlib.Omega.{arith}
 use borrow.Author.Tests.{lt-ltb, le-ltb, le-leb, lt-leb, eq-eqb, ne-eqb}
 use lib.Pow.{pow-pos, pow-mono}
 use Rattle.posit.specs.Pattern.{Positive, size, least}
-use Rattle.posit.specs.Exact.{Exact, Sound, bound, told, AtLeast, Above, Under, Just}
+use Rattle.posit.specs.Exact.{Exact, Sound, bound, told, Above, Under, Just}
 use Rattle.posit.specs.Rounding.{cut, below, nearer, round, Between, Down, Rounds, itself, largest, smallest, lower, upper}
 use Rattle.posit.proofs.Compare.{told-lt, told-lt-back}
 use Rattle.posit.proofs.Size.{size-lt, size-lt-back, size-double}

@@ -2,7 +2,7 @@
 use mathlib.Core.Bool.{Bool, true, false}
 use mathlib.Core.List.{List, [], _∷_}
 use Prim.Native.Nat.{ℕ}
-use lib.Dec.{eqb, T}
+use lib.Dec.{T}
 use Rattle.posit.specs.Operation.{sum, product, quotient, squareRoot, fusedSum, fusedDifference}
 use Rattle.posit.specs.Computing.{everything}
 use Rattle.posit.specs.Accumulator.{clear, isClear, plus, ofProduct, words}

@@ -1,9 +1,9 @@
 -- The laws of a pattern's size: it grows strictly with the pattern; one digit 0 more at the end leaves it as it is; the unit is free; the
 -- smallest and the largest. Each is shown of the pattern of ones and of the patterns that are built, over the digit of the run (`by-shape`).
-use mathlib.Core.Path.{_≡_, refl, sym, ap, _∙_, subst}
+use mathlib.Core.Path.{_≡_, refl, sym, ap, _∙_}
 use mathlib.Core.Bool.{Bool, true, false}
-use Prim.Native.Nat.{ℕ, zero, suc, _+_, _-_, _*_, _^_, _≤_, _<_, zero-le}
-use native.Mathlib.Nat.{add-zero, zero-add, add-suc, suc-add, add-assoc, mul-one, one-mul, zero-mul, mul-zero, mul-suc, mul-add, mul-assoc, pow-suc, pow-succ' as pow-suc', mul-le-mul-left, mul-le-mul-right, mul-pos, le-trans, lt-trans, le-of-lt, le-refl}
+use Prim.Native.Nat.{ℕ, zero, suc, _+_, _-_, _*_, _^_, _≤_, _<_}
+use native.Mathlib.Nat.{add-zero, zero-add, add-suc, suc-add, mul-add, pow-suc, pow-succ' as pow-suc', mul-le-mul-right, mul-pos, lt-trans, le-of-lt, le-refl}
 use native.Mathlib.Numerals.{add-one}
 use native.Mathlib.Decide.{decLt}
 use native.Mathlib.Omega.{arith}
@@ -144,10 +144,10 @@ unfolding built
 built-double o zero l t = rw (pow-suc' 2 l) (omega arith)
 built-double o (suc m) l t = rw (built-double o m l t, add-suc m (suc l), pow-suc') (omega arith)
 
-ones-double : (m : ℕ) → built true m 0 0 ≡ 2 * (2 ^ m - 1)
+pub ones-double : (m : ℕ) → built true m 0 0 ≡ 2 * (2 ^ m - 1)
 ones-double m = omega (arith, built-suc true m 0 0, only-ones m, pow-suc 2 m, pow-pos m)
 
-one-built : (m : ℕ) → built false m 0 0 ≡ 1
+pub one-built : (m : ℕ) → built false m 0 0 ≡ 1
 unfolding built
 one-built zero = refl
 one-built (suc m) = omega (arith, one-built m)

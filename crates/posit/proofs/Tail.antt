@@ -2,12 +2,12 @@
 -- and from t = 0 up to t = 2 ^ l it goes from 2 ^ s up to 2 ^ (s + 2 ^ es). All of it is read off `grow`, the same over 2 ^ (s - l).
 use mathlib.Core.Path.{_≡_, refl, sym, ap, _∙_, subst}
 use Prim.Native.Nat.{ℕ, suc, _+_, _-_, _*_, _/_, _%_, _^_, _≤_, _<_}
-use native.Mathlib.Nat.{le-trans, lt-of-lt-of-le, mod-lt, div-add-mod', mul-le-mul-right, mul-le-mul-left, mul-lt-mul-of-pos-right, le-of-lt, le-antisymm, pow-suc, pow-zero, mul-assoc, mul-comm, mul-div-mul-left, mul-add, mul-left-comm, pow-succ' as pow-suc', zero-mul, mul-zero, zero-div, zero-mod, add-zero, add-assoc, add-comm, mul-one, mul-div-cancel-left, mul-mod-right}
+use native.Mathlib.Nat.{le-trans, lt-of-lt-of-le, mod-lt, div-add-mod', mul-le-mul-right, mul-le-mul-left, mul-lt-mul-of-pos-right, le-of-lt, le-antisymm, pow-suc, mul-assoc, mul-comm, mul-div-mul-left, mul-add, pow-succ' as pow-suc', zero-mul, mul-zero, add-zero, mul-div-cancel-left, mul-mod-right}
 use native.Mathlib.Decide.{decLt}
 use native.Mathlib.Omega.{arith}
 use lib.Dec.{lit<}
-use lib.Arith.{digits-mod}
 use lib.Pow.{pow-pos, pow-mono, pow-add, shr-mono}
+use Rattle.posit.proofs.Arith.{mul-mod-mul-left}
 use Rattle.posit.specs.Pattern.{exponentOf, fractionOf}
 
 -- the sizes 2 ^ e * (2 ^ l + f), one after the other
@@ -37,15 +37,10 @@ grow-mono l y z h = go (decLt (y / 2 ^ l) (z / 2 ^ l))
         subst (λ (t : ℕ). (2 ^ l + y % 2 ^ l) * 2 ^ (y / 2 ^ l) < (2 ^ l + z % 2 ^ l) * 2 ^ t) e
         (mul-lt-mul-of-pos-right (omega arith) (pow-pos (y / 2 ^ l)))
 
-mod-double : (m y : ℕ) → 0 < m → 2 * y % (2 * m) ≡ 2 * (y % m)
-mod-double m y h =
-    let e : 2 * y ≡ y / m * (2 * m) + 2 * (y % m) = omega (arith, div-add-mod' y m, mul-left-comm (y / m) 2 m) in
-    ap (λ (t : ℕ). t % (2 * m)) e ∙ digits-mod (y / m) (omega (arith, mod-lt y h))
-
 grow-double : (l y : ℕ) → grow (suc l) (2 * y) ≡ 2 * grow l y
 unfolding grow
 grow-double l y =
-    rw (pow-suc' 2 l, mul-div-mul-left y (2 ^ l) (lit< tt), mod-double (2 ^ l) y (pow-pos l), ← mul-add)
+    rw (pow-suc' 2 l, mul-div-mul-left y (2 ^ l) (lit< tt), mul-mod-mul-left y {m = 2 ^ l} {c = 2} (pow-pos l) (lit< tt), ← mul-add)
     (mul-assoc 2 (2 ^ l + y % 2 ^ l) (2 ^ (y / 2 ^ l)))
 
 -- q whole steps and no fraction

@@ -1,7 +1,7 @@
 -- The unit is free: the rounding of a size is the same when it is told in units that are i binary digits finer. The pattern just below it stays, and so
 -- does its order with the cut.
-use mathlib.Core.Path.{_≡_, sym, ap, _∙_}
-use Prim.Native.Nat.{ℕ, suc, _+_, _-_, _*_, _^_, _≤_, _<_}
+use mathlib.Core.Path.{_≡_}
+use Prim.Native.Nat.{ℕ, suc, _+_, _*_, _^_, _≤_, _<_}
 use native.Mathlib.Nat.{pow-suc, le-trans}
 use native.Mathlib.Omega.{arith}
 use Rattle.posit.specs.Pattern.{size, least}

@@ -3,7 +3,7 @@
 -- tools/vectors.py, which says how the inputs were chosen: it works with exact rationals from the Posit Standard (2022), and for the
 -- accumulator's range and the desk from our own rules. `python3 tools/vectors.py` prints the cases, and with `--check` it says whether those
 -- below are the same, line for line.
-use mathlib.Core.Bool.{Bool, cond}
+use mathlib.Core.Bool.{cond}
 use mathlib.Core.List.{List, [], _∷_, _++_}
 use Prim.Native.Nat.{ℕ, suc, _+_, _-_, _*_, _^_}
 use lib.IntN.{ℤ, pos, negsuc}

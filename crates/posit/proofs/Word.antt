@@ -3,13 +3,13 @@
 use mathlib.Core.Path.{_≡_, refl, sym, ap, _∙_}
 use mathlib.Core.Bool.{Bool, true, false, not}
 use Prim.Native.Nat.{ℕ, zero, suc, _+_, _-_, _*_, _/_, _%_, _^_, _≤_, _<_, zero-le, suc-le-suc}
-use native.Mathlib.Nat.{zero-add, add-zero, add-comm, zero-mul, mul-assoc, pow-suc, pow-succ' as pow-suc', mod-lt, mod-one, div-add-mod', add-mul, mul-right-comm, mul-add-mod-self-right, mul-mod-left, mul-div-cancel, mul-div-mul-right, mul-pos}
+use native.Mathlib.Nat.{zero-add, add-comm, zero-mul, mul-assoc, pow-suc, pow-succ' as pow-suc', mod-lt, mod-one, div-add-mod', add-mul, mul-right-comm, mul-add-mod-self-right, mul-mod-left, mul-div-mul-right, mul-pos}
 use native.Mathlib.Decide.{ℕ-discrete, decLt}
 use native.Mathlib.Omega.{arith}
 use lib.Count.{leadingZeros, leading-length, leading-unique}
-use lib.Arith.{mod-mul}
 use lib.Pow.{pow-pos, pow-add, high}
 use Rattle.posit.specs.Pattern.{run, first, left, exponent, fraction, significand}
+use Rattle.posit.proofs.Arith.{mul-mod-mul}
 use Rattle.posit.proofs.Built.{bit, run-more, run-ends, first-lt, the-other, digit-first}
 
 -- ---- the run
@@ -85,9 +85,6 @@ pub counted : (o : Bool) (w b x : ℕ) → first w b ≡ bit o → b < 2 ^ w →
 counted o w b x f h z e = leading-half w x z ∙ ap (leadingZeros w) e ∙ (rw f (sym (run-leading o w b h)))
 
 -- ---- what follows it
-
-mul-mod-mul : (a : ℕ) {m c : ℕ} → 0 < m → 0 < c → a * c % (m * c) ≡ a % m * c
-mul-mod-mul a {m} {c} h k = rw (mod-mul (a * c) h k, mul-div-cancel a k, mul-mod-left a c, add-zero)
 
 -- what a product wraps to does not depend on what was cut off before
 mod-mul-mod : (a c n : ℕ) → a % n * c % n ≡ a * c % n

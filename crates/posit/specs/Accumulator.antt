@@ -1,11 +1,10 @@
 -- The accumulator (4): NaR, or an exact total in units of 2 ^ - unit, in `bits` binary digits (512 beside P32E2).
 use mathlib.Core.Bool.{Bool, true, false, cond}
 use mathlib.Core.List.{List, [], _∷_}
-use Prim.Native.Nat.{ℕ, zero, suc, _-_, _*_, _/_, _^_}
+use Prim.Native.Nat.{ℕ, zero, suc, _-_, _/_, _^_}
 use lib.IntN.{ℤ, pos, negsuc, negℤ, natAbs, _+ℤ_}
 use lib.Dec.{eqb, ltb}
 use Rattle.posit.specs.Pattern.{nar}
-use Rattle.posit.specs.Rounding.{rounded}
 use Rattle.posit.specs.Operation.{exact, exactProduct, roundedHere}
 use Rattle.posit.specs.Digits.{digits, number, reading, complement}
 

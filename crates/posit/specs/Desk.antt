@@ -1,7 +1,7 @@
 -- When the desk says no (5): the numbers, each given exactly when its test says so, and 0 where none is due.
 use mathlib.Core.Bool.{Bool, true, false, cond, _&&_}
 use mathlib.Core.List.{List, [], _∷_, _++_}
-use Prim.Native.Nat.{ℕ, zero, suc, _/_}
+use Prim.Native.Nat.{ℕ, _/_}
 use lib.Dec.{eqb, ltb}
 use lib.ListN.{length, drop}
 use Rattle.posit.specs.Accumulator.{State, clear, image, fromImage, batch}

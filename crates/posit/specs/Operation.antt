@@ -1,8 +1,8 @@
 -- The operations (3): each is the rounding of the exact result, or NaR. Sums, products and fused results are whole numbers of units of
 -- 2 ^ - unit; a quotient is told by cross multiplication and a root by its square.
-use mathlib.Core.Bool.{Bool, true, false, cond, xor}
-use Prim.Native.Nat.{ℕ, zero, suc, _*_, _^_}
-use lib.IntN.{ℤ, pos, negsuc, negℤ, _+ℤ_, _-ℤ_, _*ℤ_}
+use mathlib.Core.Bool.{cond, xor}
+use Prim.Native.Nat.{ℕ, _*_, _^_}
+use lib.IntN.{ℤ, _+ℤ_, _-ℤ_, _*ℤ_}
 use lib.Dec.{eqb}
 use Rattle.posit.specs.Pattern.{nar, isNegative, unsigned, size, value, least, unit}
 use Rattle.posit.specs.Exact.{ratio, root}

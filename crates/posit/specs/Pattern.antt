@@ -1,6 +1,6 @@
 -- A pattern and its value (1). A posit has es digits of exponent and w digits below its sign: 2 and 31 for P32E2, 0 and 7 for P8E0.
 -- A pattern is a number below 2 ^ (w + 1). A size is a value without its sign, and counts units of 2 ^ - u for a u that each use names.
-use mathlib.Core.Bool.{Bool, true, false, cond}
+use mathlib.Core.Bool.{Bool, cond}
 use Prim.Native.Nat.{ℕ, zero, suc, _+_, _-_, _*_, _/_, _%_, _^_, _<_}
 use lib.IntN.{ℤ, pos, negsuc, negℤ}
 use lib.Dec.{ltb, eqb}

@@ -1,6 +1,6 @@
 -- Rounding (2): which pattern an exact result is given. `round` computes it. `Rounds` says what it is in the standard's words, and is all that
 -- a reader has to believe: that `round` meets it, and that it has one answer, is shown in proofs/.
-use mathlib.Core.Bool.{Bool, true, false, cond}
+use mathlib.Core.Bool.{Bool, true, cond}
 use mathlib.Core.Path.{_≡_}
 use mathlib.Core.Logic.{_⊎_}
 use Prim.Native.Nat.{ℕ, zero, suc, _+_, _-_, _*_, _%_, _^_, _<_}

@@ -1,0 +1,19 @@
+-- Facts on numbers that several files need: remainders of products, sums of powers, one less than the next.
+use mathlib.Core.Path.{_≡_, sym, ap, _∙_}
+use Prim.Native.Nat.{ℕ, suc, _+_, _-_, _*_, _%_, _^_, _<_}
+use native.Mathlib.Nat.{add-zero, mul-comm, mul-div-cancel, mul-mod-left}
+use native.Mathlib.Omega.{arith}
+use lib.Arith.{mod-mul}
+use lib.Pow.{pow-add}
+
+pub suc-sub-one : (n : ℕ) → suc n - 1 ≡ n
+suc-sub-one n = omega arith
+
+pub mul-mod-mul : (a : ℕ) {m c : ℕ} → 0 < m → 0 < c → a * c % (m * c) ≡ a % m * c
+mul-mod-mul a {m} {c} h k = rw (mod-mul (a * c) h k, mul-div-cancel a k, mul-mod-left a c, add-zero)
+
+pub mul-mod-mul-left : (a : ℕ) {m c : ℕ} → 0 < m → 0 < c → c * a % (c * m) ≡ c * (a % m)
+mul-mod-mul-left a {m} {c} h k = rw (mul-comm c a, mul-comm c m, mul-comm c (a % m)) (mul-mod-mul a h k)
+
+pub pow-sum : (a b c : ℕ) → a + b ≡ c → 2 ^ a * 2 ^ b ≡ 2 ^ c
+pow-sum a b c e = sym (pow-add 2 a b) ∙ ap (λ (k : ℕ). 2 ^ k) e
