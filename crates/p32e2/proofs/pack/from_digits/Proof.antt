@@ -1,8 +1,11 @@
 -- `from_digits` meets its contract: the digits that stay fit below the run, and what is cut off is not 0 just where its rest and the sticky bit are not both 0.
-use Prim.Native.Nat.{_+_, _-_}
+use mathlib.Core.Path.{sym, ap, ap₂, subst, _∙_}
+use Prim.Native.Nat.{ℕ, _+_, _-_, _/_, _%_, _^_, _<_}
 use native.Mathlib.Nat.{mod-lt, lt-of-lt-of-le}
 use native.Mathlib.Omega.{arith}
+use lib.Dec.{ltb}
 use lib.Pow.{pow-pos, pow-mono}
+use Rattle.posit.proofs.LongPattern.{halfEven}
 use Rattle.p32e2.specs.Packed.{fromDigits}
 use Rattle.p32e2.proofs.Machine.{one-shifted, digit-is, digit-lt}
 use Rattle.p32e2.proofs.Packed.{behind-lt, within}
@@ -39,7 +42,7 @@ shl-half-even : tie.Need-shl-half-even
 shl-half-even c = search needs
 
 rem-half-even : tie.Need-rem-half-even
-rem-half-even c = let m = c .before .args .m in rw (one-shifted 64 (33 + m) (omega arith)) (pow-pos (33 + m))
+rem-half-even c = let m = c .before .args .m in subst (λ (n : ℕ). 0 < n) (sym (one-shifted 64 (33 + m) (omega arith))) (pow-pos (33 + m))
 
 cast-half-even-2 : tie.Need-cast-half-even-2
 cast-half-even-2 c = search needs
@@ -57,7 +60,10 @@ returns : tie.Need-returns
 unfolding fromDigits
 returns c =
     let a = c .before .before .args in
-    rw (c .before .regime .ensures, one-shifted 64 (33 + a .m) (omega arith), digit-is (a .sticky)) at (c .half-even .ensures)
+    let rest : ℕ → ℕ = λ n. a .t % n in
+    c .half-even .ensures
+    ∙ ap₂ (λ (r n : ℕ). halfEven (r + a .t / 2 ^ (33 + a .m)) (ltb 0 n)) (c .before .regime .ensures)
+    (ap₂ _+_ (ap rest (one-shifted 64 (33 + a .m) (omega arith))) (digit-is (a .sticky)))
 
 pub from-digits-spec : {M : Type 1} → statement M
 from-digits-spec =
