@@ -1,9 +1,9 @@
 -- What `pack` answers is the rounding of every size that its arguments stand for: the size may be told exactly, or by fewer digits of the fraction with 0 behind
--- them and the sticky bit set. So a caller shows only between which two significands its exact result lies (`packs`).
+-- them and the sticky bit set. So a caller shows only between which two significands its exact result lies (`stands-for`).
 use mathlib.Core.Path.{_≡_, refl, sym, ap, _∙_}
 use mathlib.Core.Bool.{Bool, true, false, cond, _||_}
 use Prim.Native.Nat.{ℕ, suc, _+_, _-_, _*_, _/_, _%_, _^_, _≤_, _<_}
-use native.Mathlib.Nat.{add-zero, le-trans, lt-of-lt-of-le, pow-suc, pow-succ' as pow-suc', mul-one, mul-pos, mod-lt, mul-le-mul-right, mul-lt-mul-of-pos-right}
+use native.Mathlib.Nat.{add-zero, le-trans, lt-of-lt-of-le, pow-suc, pow-succ' as pow-suc', mul-one, mul-pos, mod-lt, mod-eq-of-lt, mul-le-mul-right, mul-lt-mul-of-pos-right}
 use native.Mathlib.Decide.{decLt}
 use native.Mathlib.Omega.{arith}
 use borrow.Author.Tests.{lt-ltb, le-ltb, le-leb, lt-leb}
@@ -172,3 +172,13 @@ module _ (c fraction : ℕ) where
   pack-size-is s =
       packs (whole (packedSize c fraction s)) (sound-told s) 61 (lit≤ tt) (lit≤ tt) c (fraction % 2 ^ 61) (mod-lt fraction (pow-pos 61)) (spans-told s) s (above-told s)
       ∙ ap (λ (F : ℕ). packing c F s) (mul-one (fraction % 2 ^ 61))
+
+-- For a caller: what lies from a significand of n + 1 binary digits up to the next is rounded as `pack` rounds what it is handed, where s says whether it lies above.
+pub stands-for : (x : Exact) → Sound x → (n : ℕ) → 28 ≤ n → n ≤ 61 → (c f : ℕ) → f < 2 ^ n → Spans x n f (c + 62 - n)
+    → (s : Bool) → above x ((2 ^ n + f) * 2 ^ (c + 62 - n)) ≡ s
+    → round 2 31 1086 x ≡ round 2 31 1086 (whole (packedSize c (f * 2 ^ (61 - n)) s))
+stands-for x sound n hn hn′ c f hf spans s sticky =
+    let small : f * 2 ^ (61 - n) < 2 ^ 61 = omega (arith, mul-lt-mul-of-pos-right hf (pow-pos (61 - n)), pow-sum n (61 - n) 61 (omega arith)) in
+    packs x sound n hn hn′ c f hf spans s sticky
+    ∙ ap (λ (F : ℕ). packing c F s) (sym (mod-eq-of-lt small))
+    ∙ sym (pack-size-is c (f * 2 ^ (61 - n)) s)

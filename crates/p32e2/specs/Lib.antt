@@ -1,4 +1,5 @@
 -- What the constants and the answers of this crate are.
 pub mod Constants
 pub mod Packed
+pub mod Scaled
 pub mod Unpacked

@@ -1,10 +1,12 @@
 // Posits of 32 bits with two exponent digits: the patterns by value, their constants, and a pattern taken apart.
+mod scaled; // scaled.rt: a size as a significand at a scale
 pub mod pack; // pack.rt: the one rounding
 
 ghost use mathlib.Core.Path.{_≡_};
 ghost use Prim.Native.Nat.{_<_, _^_};
 ghost use lib.Dec.{eqb};
 ghost use Rattle.posit.specs.Pattern.{nar, opposite, unsigned, Positive, first, run, regime, exponent, significand, isReal, parts};
+ghost use Rattle.posit.proofs.Word.{behind};
 ghost use Rattle.p32e2.specs.Unpacked.{meaning};
 ghost use Rattle.p32e2.specs.Constants.{patterns};
 
@@ -101,19 +103,35 @@ fn sign_off(p: P32E2) -> u32
     if v > P32E2::NAR.0 { p.neg().0 } else { v }
 }
 
-// A pattern b above 0 with its sign off, taken apart. The sign, the run and the digit that ends it are shifted out: what follows stands at the
-// top of the word, and exponent digits that are missing are 0. A run of all 31 digits has no end, and leaves 0.
+// A pattern b above 0 with its sign off, taken apart.
 fn real(sign: bool, b: u32) -> Unpacked
     requires { ⌜ Positive 31 b ⌝ }
     ensures { λ r. ⌜ meaning r ≡ isReal sign (regime 31 b) (exponent 2 31 b) (significand 2 31 b) ⌝ }
 {
-    let m = run_of(b);
-    let t = (b << m) << 2;
+    let s = split(b);
     Unpacked::Real {
         sign,
-        k: regime_of(b, m),
-        e: t >> 30,
-        significand: 0x4000_0000 + t % 0x4000_0000,
+        k: regime_of(b, s.run),
+        e: s.behind >> 30,
+        significand: 0x4000_0000 + s.behind % 0x4000_0000,
+    }
+}
+
+// The length of a run, and what follows the run and the digit that ends it, at the top of a word; digits that are missing are 0.
+struct Digits {
+    run: u32,
+    behind: u32,
+}
+
+// The sign, the run and its end are shifted out. A run of all 31 digits has no end, and leaves 0.
+fn split(b: u32) -> Digits
+    requires { ⌜ Positive 31 b ⌝ }
+    ensures { λ r. ⌜ (r .run ≡ run (first 31 b) 31 b) × (r .behind ≡ behind 2 31 b) ⌝ }
+{
+    let m = run_of(b);
+    Digits {
+        run: m,
+        behind: (b << m) << 2,
     }
 }
 
