@@ -11,7 +11,10 @@ pub mod Unit
 pub mod Packing
 pub mod Value
 pub mod Word
+pub mod Signs
 pub mod Parts
+pub mod Finer
+pub mod Operation
 pub mod Digits
 pub mod Complement
 mod Table

@@ -2,17 +2,18 @@
 -- range. `parts-tell` reads it off the answer of `parts`; the regime's range is shown of the pattern of ones and of those that are built.
 use mathlib.Core.Path.{_≡_, refl, sym, ap, _∙_}
 use mathlib.Core.Logic.{_≢_}
-use mathlib.Core.Bool.{Bool, true, false, cond}
+use mathlib.Core.Bool.{Bool, true, false}
 use Prim.Native.Nat.{ℕ, suc, _+_, _-_, _*_, _^_, _≤_, _<_}
 use native.Mathlib.Nat.{mul-comm, mul-assoc, pow-suc, mod-lt, div-lt-iff-lt-mul, mul-le-mul-left, mul-lt-mul-of-pos-right, add-mul}
 use native.Mathlib.Decide.{ℕ-discrete, decLt}
 use native.Mathlib.Omega.{arith}
 use borrow.Author.Tests.{eq-eqb, ne-eqb, lt-ltb, le-ltb}
-use lib.IntN.{ℤ, pos, negsuc, negℤ, natAbs}
+use lib.IntN.{ℤ, pos, negsuc, natAbs}
 use lib.Pow.{pow-pos, pow-add}
 use Rattle.posit.specs.Pattern.{nar, opposite, isNegative, unsigned, Positive, regime, regimeOf, left, exponent, fraction, raised, size, value, least, Parts, isZero, isNaR, isReal, significand, parts}
 use Rattle.posit.proofs.Value.{opposite-positive, value-positive, value-negative}
 use Rattle.posit.proofs.Word.{behind, behind-significand, left-le, split-by-left}
+use Rattle.posit.proofs.Signs.{withSign}
 use Rattle.posit.proofs.Built.{bit, by-shape, regime-built, regime-ones}
 
 -- ---- a pattern b above 0 with its sign off
@@ -83,9 +84,6 @@ module _ (w p : ℕ) where
 abbrev pub sizeOf : ℕ → ℕ → ℕ → ℤ → ℕ → ℕ → ℕ
 sizeOf es w u k e g = g * 2 ^ (raised es u k + e - (w - 1))
 
-abbrev pub withSign : Bool → ℕ → ℤ
-withSign s n = cond s (negℤ (pos n)) (pos n)
-
 -- What the answer for a real pattern tells of it.
 pub record Tells (es w p : ℕ) (s : Bool) (k : ℤ) (e g : ℕ) : Type 0 where
   pub not-zero : p ≢ 0
@@ -120,7 +118,7 @@ module _ (es w p : ℕ) where
   unfolding parts
   parts-real z n = rw (ne-eqb p 0 z, ne-eqb p (nar w) n)
 
-  value-real : (u : ℕ) → p ≢ 0 → p ≢ nar w → value es w u p ≡ withSign (isNegative w p) (size es w u (unsigned w p))
+  pub value-real : (u : ℕ) → p ≢ 0 → p ≢ nar w → value es w u p ≡ withSign (isNegative w p) (size es w u (unsigned w p))
   value-real u z n = go (decLt (nar w) p)
     where
       go : Dec (nar w < p) → value es w u p ≡ withSign (isNegative w p) (size es w u (unsigned w p))

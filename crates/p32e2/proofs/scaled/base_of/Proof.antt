@@ -1,7 +1,7 @@
 -- `base_of` meets its contract: the first digit tells of what the run is made, and its length the regime.
-use mathlib.Core.Path.{_≡_, refl, sym, ap, _∙_}
+use mathlib.Core.Path.{_≡_, refl, ap, _∙_}
 use mathlib.Core.Bool.{true, false}
-use Prim.Native.Nat.{ℕ, zero, suc, _+_, _-_, _*_, _^_, _<_}
+use Prim.Native.Nat.{ℕ, zero, suc, _+_, _-_, _*_, _<_}
 use native.Mathlib.Omega.{arith}
 use lib.IntN.{pos, negℤ}
 use Rattle.posit.specs.Pattern.{first, run, regime, regimeOf, raised}

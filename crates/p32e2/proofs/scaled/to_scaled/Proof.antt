@@ -1,12 +1,12 @@
 -- `to_scaled` meets its contract: the parts tell the size (`size-parts`), and in units of 2 ^ - 542 the power that is left is the scale.
 use mathlib.Core.Path.{_≡_, sym, ap, ap₂, subst₂, _∙_}
-use Prim.Native.Nat.{ℕ, suc, _+_, _-_, _*_, _/_, _%_, _^_, _≤_, _<_}
+use Prim.Native.Nat.{ℕ, _+_, _-_, _*_, _/_, _%_, _^_, _≤_, _<_}
 use native.Mathlib.Omega.{arith}
 use borrow.Author.Needs.{needs}
 use lib.Dec.{lit<, lit≤}
 use lib.IntN.{ℤ, pos, negsuc, natAbs}
 use Rattle.posit.specs.Pattern.{Positive, regime, exponent, significand, raised}
-use Rattle.posit.proofs.Word.{behind, behind-exponent, behind-significand}
+use Rattle.posit.proofs.Word.{behind-exponent, behind-significand}
 use Rattle.posit.proofs.Parts.{regime-small, exponent-lt, significand-ge, significand-lt, size-parts}
 use Rattle.p32e2.specs.Scaled.{Scales}
 use Rattle.p32e2.proofs.scaled.to_scaled.Statement.{statement}
