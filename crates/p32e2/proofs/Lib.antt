@@ -2,3 +2,4 @@
 mod Constants
 pub mod Machine
 pub mod Packed
+pub mod Exactly

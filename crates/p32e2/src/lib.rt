@@ -1,5 +1,6 @@
 // Posits of 32 bits with two exponent digits: the patterns by value, their constants, and a pattern taken apart.
 mod scaled; // scaled.rt: a size as a significand at a scale
+mod terms; // terms.rt: posits and products as exact terms
 pub mod pack; // pack.rt: the one rounding
 
 ghost use mathlib.Core.Path.{_≡_};

@@ -9,9 +9,9 @@ pub mod Rounding
 pub mod LongPattern
 pub mod Unit
 pub mod Packing
+pub mod Signs
 pub mod Value
 pub mod Word
-pub mod Signs
 pub mod Parts
 pub mod Finer
 pub mod Operation

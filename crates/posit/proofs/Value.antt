@@ -1,6 +1,7 @@
 -- A pattern's value by its sign, and back: rounding the value of a pattern gives the pattern, for zero, positive and negative patterns (`rounded-own`).
 use mathlib.Core.Path.{_≡_, refl, sym, ap, _∙_}
 use mathlib.Core.Logic.{_≢_}
+use mathlib.Core.Bool.{Bool, true, false}
 use Prim.Native.Nat.{ℕ, zero, suc, _-_, _^_, _≤_, _<_}
 use native.Mathlib.Nat.{pow-suc, mod-eq-of-lt}
 use native.Mathlib.Decide.{decLt}
@@ -11,6 +12,7 @@ use lib.IntN.{pos, negℤ}
 use Rattle.posit.specs.Pattern.{nar, opposite, Positive, size, value, least}
 use Rattle.posit.specs.Exact.{whole}
 use Rattle.posit.specs.Rounding.{round, signed, rounded}
+use Rattle.posit.proofs.Signs.{withSign}
 use Rattle.posit.proofs.Size.{size-positive}
 use Rattle.posit.proofs.Rounding.{fine-here, round-own}
 
@@ -47,6 +49,11 @@ module _ (es w u : ℕ) where
   unfolding rounded signed
   rounded-negative zero z = absurd (omega arith)
   rounded-negative (suc n) z = refl
+
+  pub rounded-signed : (s : Bool) (n : ℕ) → 0 < n → rounded es w u (withSign s n) ≡ signed w s (round es w u (whole n))
+  unfolding signed
+  rounded-signed true n z = rounded-negative n z
+  rounded-signed false n z = rounded-positive n z
 
   module _ (v : 0 < w) (fine : least es (suc w) ≤ u) where
     -- the size of a positive pattern is rounded to it

@@ -23,10 +23,13 @@ scales b p =
     let e : raised 2 542 (regime 31 b) + exponent 2 31 b - 30 ≡ raised 2 512 (regime 31 b) + exponent 2 31 b = omega arith in
     record {
       size-is = size-parts 2 31 542 b p (lit≤ tt) ∙ ap (λ (n : ℕ). significand 2 31 b * 2 ^ n) e;
-      leading = significand-ge 2 31 b;
-      below = significand-lt 2 31 b (lit< tt);
-      low = omega arith;
-      high = omega (arith, exponent-lt 2 31 b);
+      in-scale =
+          record {
+            leading = significand-ge 2 31 b;
+            below = significand-lt 2 31 b (lit< tt);
+            low = omega arith;
+            high = omega (arith, exponent-lt 2 31 b);
+          };
     }
 
 split-requires : tie.Need-split-requires
