@@ -1,6 +1,6 @@
--- What the machine's operations are on the numbers that occur here: a one shifted within its word, and a bool as a number.
+-- What the machine's operations are on the numbers that occur here: a one shifted within its word, a bool as a number, and two that differ.
 use mathlib.Core.Path.{_≡_, refl}
-use mathlib.Core.Bool.{Bool, true, false}
+use mathlib.Core.Bool.{Bool, true, false, not, xor, Bool·beq}
 use Prim.Native.Nat.{ℕ, _*_, _%_, _^_, _<_}
 use native.Mathlib.Nat.{one-mul, mod-eq-of-lt}
 use lib.Dec.{lit<}
@@ -18,3 +18,10 @@ digit-is false = refl
 pub digit-lt : (s : Bool) → boolByte s < 2
 digit-lt true = lit< tt
 digit-lt false = lit< tt
+
+pub differ-is : (s t : Bool) → not (Bool·beq s t) ≡ xor s t
+unfolding xor
+differ-is true true = refl
+differ-is true false = refl
+differ-is false true = refl
+differ-is false false = refl

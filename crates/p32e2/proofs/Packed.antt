@@ -10,7 +10,7 @@ use borrow.Author.Tests.{lt-ltb, le-ltb, le-leb, lt-leb}
 use lib.Dec.{leb, ltb, lit<, lit≤}
 use lib.Pow.{pow-pos, pow-mono, shr-lt}
 use Rattle.posit.specs.Pattern.{size, least}
-use Rattle.posit.specs.Exact.{Exact, whole, Sound, above}
+use Rattle.posit.specs.Exact.{Exact, whole, Sound, above, AtLeast, Under}
 use Rattle.posit.specs.Rounding.{round}
 use Rattle.posit.proofs.Arith.{pow-sum}
 use Rattle.posit.proofs.Built.{built}
@@ -182,3 +182,19 @@ stands-for x sound n hn hn′ c f hf spans s sticky =
     packs x sound n hn hn′ c f hf spans s sticky
     ∙ ap (λ (F : ℕ). packing c F s) (sym (mod-eq-of-lt small))
     ∙ sym (pack-size-is c (f * 2 ^ (61 - n)) s)
+
+leading-unread : (n f : ℕ) → n ≤ 61 → f * 2 ^ (61 - n) % 2 ^ 61 ≡ (2 ^ n + f) * 2 ^ (61 - n) % 2 ^ 61
+leading-unread n f h = omega (arith, pow-sum n (61 - n) 61 (omega arith))
+
+-- The same where the leading one stays: x lies from G * 2 ^ a up to the next such number, and the leading one of G, at bit n, is moved to bit 61.
+pub significand-stands-for : (x : Exact) → Sound x → (n : ℕ) → 28 ≤ n → n ≤ 61 → (c G a : ℕ) → c + 62 - n ≡ a → 2 ^ n ≤ G → G < 2 ^ suc n
+    → AtLeast x (G * 2 ^ a) → Under x (suc G * 2 ^ a)
+    → (s : Bool) → above x (G * 2 ^ a) ≡ s
+    → round 2 31 1086 x ≡ round 2 31 1086 (whole (packedSize c (G * 2 ^ (61 - n)) s))
+significand-stands-for x sound n hn hn′ c G a place leading short low high s sticky =
+    let f = G - 2 ^ n in
+    let same : 2 ^ n + f ≡ G = omega arith in
+    let next : 2 ^ n + suc f ≡ suc G = omega arith in
+    let spans : Spans x n f (c + 62 - n) = record { low = rw (same, place) low; high = rw (next, place) high } in
+    stands-for x sound n hn hn′ c f (omega (arith, pow-suc 2 n)) spans s (rw (same, place) sticky)
+    ∙ ap (λ (F : ℕ). round 2 31 1086 (whole ((2 * (2 ^ 61 + F) + asDigit s) * 2 ^ c))) (leading-unread n f hn′ ∙ ap (λ (g : ℕ). g * 2 ^ (61 - n) % 2 ^ 61) same)

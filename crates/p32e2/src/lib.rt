@@ -1,4 +1,5 @@
 // Posits of 32 bits with two exponent digits: the patterns by value, their constants, and a pattern taken apart.
+mod ops; // ops.rt: the arithmetic
 mod scaled; // scaled.rt: a size as a significand at a scale
 mod terms; // terms.rt: posits and products as exact terms
 pub mod pack; // pack.rt: the one rounding
@@ -6,7 +7,8 @@ pub mod pack; // pack.rt: the one rounding
 ghost use mathlib.Core.Path.{_≡_};
 ghost use Prim.Native.Nat.{_<_, _^_};
 ghost use lib.Dec.{eqb};
-ghost use Rattle.posit.specs.Pattern.{nar, opposite, unsigned, Positive, first, run, regime, exponent, significand, isReal, parts};
+ghost use Rattle.posit.specs.Pattern.{nar, unsigned, Positive, first, run, regime, exponent, significand, isReal, parts};
+ghost use Rattle.posit.specs.Operation.{quotient};
 ghost use Rattle.posit.proofs.Word.{behind};
 ghost use Rattle.p32e2.specs.Unpacked.{meaning};
 ghost use Rattle.p32e2.specs.Constants.{patterns};
@@ -62,10 +64,10 @@ impl P32E2 {
         self.0 == P32E2::NAR.0
     }
 
-    pub fn neg(self) -> P32E2
-        ensures { λ r. ⌜ r .0 ≡ opposite 31 (self .0) ⌝ }
+    pub fn recip(self) -> P32E2
+        ensures { λ r. ⌜ r .0 ≡ quotient 2 31 (2 ^ 30) (self .0) ⌝ }
     {
-        P32E2(std::num::wrapping_sub_u32(0, self.0))
+        P32E2::ONE.div(self)
     }
 
     pub fn unpack(self) -> Unpacked

@@ -41,7 +41,7 @@ finer i (whole x) = whole (x * 2 ^ i)
 finer i (ratio x y) = ratio (x * 2 ^ i) y
 finer i (root x) = root (x * (2 ^ i * 2 ^ i))
 
-leb-factor : (a b c : ℕ) → 0 < c → leb (a * c) (b * c) ≡ leb a b
+pub leb-factor : (a b c : ℕ) → 0 < c → leb (a * c) (b * c) ≡ leb a b
 leb-factor a b c h = go (decLt b a)
   where
     go : Dec (b < a) → leb (a * c) (b * c) ≡ leb a b
@@ -55,6 +55,9 @@ ltb-leb a b = go (decLt a b)
     go : Dec (a < b) → ltb a b ≡ not (leb b a)
     go (yes q) = rw (lt-ltb a b q, lt-leb b a q)
     go (no q) = rw (le-ltb a b (omega arith), le-leb b a (omega arith))
+
+pub ltb-factor : (a b c : ℕ) → 0 < c → ltb (a * c) (b * c) ≡ ltb a b
+ltb-factor a b c h = ltb-leb (a * c) (b * c) ∙ ap not (leb-factor b a c h) ∙ sym (ltb-leb a b)
 
 -- both sides of the comparison grow by one factor above 0
 factor : ℕ → Exact → ℕ
@@ -96,4 +99,4 @@ module _ (i : ℕ) where
   finer-least x v = rw (finer-told x v, finer-bound x) (leb-factor (told x v) (bound x) (factor i x) (factor-pos x))
 
   pub finer-above : (x : Exact) (v : ℕ) → above (finer i x) (v * 2 ^ i) ≡ above x v
-  finer-above x v = rw (finer-told x v, finer-bound x) (ltb-leb (told x v * factor i x) (bound x * factor i x) ∙ ap not (leb-factor (bound x) (told x v) (factor i x) (factor-pos x)) ∙ sym (ltb-leb (told x v) (bound x)))
+  finer-above x v = rw (finer-told x v, finer-bound x) (ltb-factor (told x v) (bound x) (factor i x) (factor-pos x))

@@ -15,6 +15,7 @@ pub mod Word
 pub mod Parts
 pub mod Finer
 pub mod Operation
+pub mod Quotient
 pub mod Digits
 pub mod Complement
 mod Table

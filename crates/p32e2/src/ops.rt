@@ -1,0 +1,60 @@
+// The arithmetic: each result is the exact one, rounded once, or NaR.
+ghost use mathlib.Core.Path.{_≡_};
+ghost use Prim.Native.Nat.{_*_, _^_};
+ghost use Rattle.posit.specs.Pattern.{opposite, Positive, size};
+ghost use Rattle.posit.specs.Exact.{ratio};
+ghost use Rattle.posit.specs.Rounding.{round, signed};
+ghost use Rattle.posit.specs.Operation.{quotient};
+use super::P32E2;
+use super::pack::pack;
+use super::scaled::to_scaled;
+use super::sign_off;
+
+impl P32E2 {
+    pub fn neg(self) -> P32E2
+        ensures { λ r. ⌜ r .0 ≡ opposite 31 (self .0) ⌝ }
+    {
+        P32E2(std::num::wrapping_sub_u32(0, self.0))
+    }
+
+    pub fn div(self, other: P32E2) -> P32E2
+        ensures { λ r. ⌜ r .0 ≡ quotient 2 31 (self .0) (other .0) ⌝ }
+    {
+        let p = self.0;
+        let d = other.0;
+        if p == P32E2::NAR.0 {
+            return P32E2::NAR;
+        }
+        if d == P32E2::NAR.0 {
+            return P32E2::NAR;
+        }
+        if d == 0 {
+            return P32E2::NAR;
+        }
+        if p == 0 {
+            return P32E2::ZERO;
+        }
+        let negative = (p > P32E2::NAR.0) != (d > P32E2::NAR.0);
+        div_sizes(negative, sign_off(self), sign_off(other))
+    }
+}
+
+// The quotient of two sizes, rounded, with its sign. The significands' quotient has its leading one at bit 31 or 32, which `pack` does not read, and the
+// remainder is the sticky bit.
+fn div_sizes(negative: bool, a: u32, b: u32) -> P32E2
+    requires { ⌜ Positive 31 a × Positive 31 b ⌝ }
+    ensures { λ r. ⌜ r .0 ≡ signed 31 negative (round 2 31 1086 (ratio (size 2 31 542 a * 2 ^ 1086) (size 2 31 542 b))) ⌝ }
+{
+    let x = to_scaled(a);
+    let y = to_scaled(b);
+    let n = (x.significand as u64) << 32;
+    let d = y.significand as u64;
+    let q = n / d;
+    let high = (q >> 32) as u32;
+    pack(
+        negative,
+        1023 + high + x.scale - y.scale,
+        q << (30 - high),
+        0 < n % d,
+    )
+}
