@@ -2,19 +2,20 @@
 -- moving powers of two (`moved`); the parts come from the sizes (`Scales`).
 use mathlib.Core.Path.{_≡_, refl, sym, ap, ap₂, _∙_}
 use mathlib.Core.Bool.{Bool, false, xor}
-use Prim.Native.Nat.{ℕ, suc, _+_, _-_, _*_, _/_, _%_, _^_, _≤_, _<_}
-use native.Mathlib.Nat.{mul-assoc, mul-comm, mul-le-mul-left, mul-le-mul-right, mul-lt-mul-of-pos-right, lt-of-le-of-lt, le-trans, le-of-lt, mul-one, mul-pos}
+use Prim.Native.Nat.{ℕ, _+_, _*_, _/_, _%_, _^_, _≤_, _<_}
+use native.Mathlib.Nat.{mul-le-mul-left, mul-le-mul-right, mul-lt-mul-of-pos-right, lt-of-le-of-lt, le-trans, le-of-lt, mul-one, mul-pos}
 use native.Mathlib.Omega.{arith}
 use lib.Dec.{lit<, lit≤}
-use lib.IntN.{pos, _*ℤ_}
+use lib.IntN.{ℤ, pos, _+ℤ_, _*ℤ_}
 use lib.Pow.{pow-pos, pow-add}
-use Rattle.posit.specs.Pattern.{isNegative, unsigned, size, value, least}
+use Rattle.posit.specs.Pattern.{isNegative, unsigned, size}
 use Rattle.posit.specs.Exact.{whole}
 use Rattle.posit.specs.Rounding.{round, rounded, signed}
 use Rattle.posit.specs.Operation.{exact, exactProduct}
 use Rattle.posit.proofs.Signs.{withSign, product-signs, scaled-sign}
 use Rattle.posit.proofs.Size.{size-unit}
 use Rattle.posit.proofs.Parts.{unsigned-positive, value-real}
+use Rattle.posit.proofs.Finer.{rounded-finer, sum-finer}
 use Rattle.posit.proofs.Value.{rounded-signed}
 use Rattle.p32e2.specs.Packed.{packedSize}
 use Rattle.p32e2.specs.Scaled.{InScale, Scales, Real, Normal, IsTerm, Multiplied}
@@ -82,3 +83,13 @@ term-rounded s c g n =
     let digits : g ≡ 2 * (2 ^ 61 + g / 2 % 2 ^ 61) + 0 = omega (arith, n .leading, n .below, n .even) in
     rounded-signed 2 31 1086 s (g * 2 ^ c) (mul-pos (omega (arith, n .leading)) (pow-pos c))
     ∙ ap (λ (m : ℕ). signed 31 s (round 2 31 1086 (whole (m * 2 ^ c)))) digits
+
+-- ---- from the units of the definitions to those of the terms
+
+module _ (x : ℤ) (s : Bool) (c g : ℕ) (is-x : IsTerm x s c g) where
+  pub term-alone : rounded 2 31 240 x ≡ rounded 2 31 1086 (withSign s (g * 2 ^ c))
+  term-alone = rounded-finer 2 31 240 846 (lit≤ tt) x ∙ ap (rounded 2 31 1086) (is-x .is)
+
+  pub terms-sum : (y : ℤ) (t : Bool) (d h : ℕ) → IsTerm y t d h
+      → rounded 2 31 240 (x +ℤ y) ≡ rounded 2 31 1086 (withSign s (g * 2 ^ c) +ℤ withSign t (h * 2 ^ d))
+  terms-sum y t d h is-y = sum-finer 2 31 240 846 (lit≤ tt) x y ∙ ap₂ (λ u v. rounded 2 31 1086 (u +ℤ v)) (is-x .is) (is-y .is)

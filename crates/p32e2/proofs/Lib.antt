@@ -4,3 +4,5 @@ pub mod Machine
 pub mod Packed
 pub mod Divided
 pub mod Exactly
+pub mod Wide
+pub mod Added

@@ -2,4 +2,5 @@
 pub mod Constants
 pub mod Packed
 pub mod Scaled
+pub mod Sums
 pub mod Unpacked

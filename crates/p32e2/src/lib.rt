@@ -1,7 +1,9 @@
 // Posits of 32 bits with two exponent digits: the patterns by value, their constants, and a pattern taken apart.
+mod math; // math.rt: fused results
 mod ops; // ops.rt: the arithmetic
 mod scaled; // scaled.rt: a size as a significand at a scale
 mod terms; // terms.rt: posits and products as exact terms
+mod sums; // sums.rt: the sum of two terms
 pub mod pack; // pack.rt: the one rounding
 
 ghost use mathlib.Core.Path.{_≡_};

@@ -4,17 +4,67 @@ ghost use Prim.Native.Nat.{_*_, _^_};
 ghost use Rattle.posit.specs.Pattern.{opposite, Positive, size};
 ghost use Rattle.posit.specs.Exact.{ratio};
 ghost use Rattle.posit.specs.Rounding.{round, signed};
-ghost use Rattle.posit.specs.Operation.{quotient};
+ghost use Rattle.posit.specs.Operation.{sum, difference, product, quotient};
 use super::P32E2;
 use super::pack::pack;
 use super::scaled::to_scaled;
 use super::sign_off;
+use super::sums::sum_of;
+use super::terms::pack_term;
+use super::terms::product_of;
+use super::terms::term_of;
 
 impl P32E2 {
     pub fn neg(self) -> P32E2
         ensures { λ r. ⌜ r .0 ≡ opposite 31 (self .0) ⌝ }
     {
         P32E2(std::num::wrapping_sub_u32(0, self.0))
+    }
+
+    pub fn add(self, other: P32E2) -> P32E2
+        ensures { λ r. ⌜ r .0 ≡ sum 2 31 (self .0) (other .0) ⌝ }
+    {
+        let p = self.0;
+        let q = other.0;
+        if p == P32E2::NAR.0 {
+            return P32E2::NAR;
+        }
+        if q == P32E2::NAR.0 {
+            return P32E2::NAR;
+        }
+        if p == 0 {
+            return other;
+        }
+        if q == 0 {
+            return self;
+        }
+        sum_of(term_of(self), term_of(other))
+    }
+
+    pub fn sub(self, other: P32E2) -> P32E2
+        ensures { λ r. ⌜ r .0 ≡ difference 2 31 (self .0) (other .0) ⌝ }
+    {
+        self.add(other.neg())
+    }
+
+    pub fn mul(self, other: P32E2) -> P32E2
+        ensures { λ r. ⌜ r .0 ≡ product 2 31 (self .0) (other .0) ⌝ }
+    {
+        let p = self.0;
+        let q = other.0;
+        if p == P32E2::NAR.0 {
+            return P32E2::NAR;
+        }
+        if q == P32E2::NAR.0 {
+            return P32E2::NAR;
+        }
+        if p == 0 {
+            return P32E2::ZERO;
+        }
+        if q == 0 {
+            return P32E2::ZERO;
+        }
+        pack_term(product_of(self, other))
     }
 
     pub fn div(self, other: P32E2) -> P32E2

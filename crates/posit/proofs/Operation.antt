@@ -187,7 +187,7 @@ module _ (es w : ℕ) where
     fine : least es (suc w) ≤ unit es w
     fine = let more : suc w - 1 ≤ (w - 1) + (w - 1) = omega arith in omega (arith, mul-le-mul-left (2 ^ es) more, mul-add (2 ^ es) (w - 1) (w - 1))
 
-    own : (p : ℕ) → p < 2 ^ suc w → p ≢ nar w → roundedHere es w (exact es w p) ≡ p
+    pub own : (p : ℕ) → p < 2 ^ suc w → p ≢ nar w → roundedHere es w (exact es w p) ≡ p
     unfolding exact
     own p k n = rounded-own es w (unit es w) (omega arith) fine p k n
 

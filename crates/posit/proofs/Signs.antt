@@ -94,7 +94,7 @@ negated-product x y = by-sign (λ x. negℤ x *ℤ y ≡ negℤ (x *ℤ y)) (λ 
 
 -- ---- a factor goes through a sum
 
-sub-mul : (a b k : ℕ) → (a - b) * k ≡ a * k - b * k
+pub sub-mul : (a b k : ℕ) → (a - b) * k ≡ a * k - b * k
 sub-mul a b k = rw (mul-comm (a - b) k, mul-comm a k, mul-comm b k) (mul-sub k a b)
 
 module _ (k : ℕ) where

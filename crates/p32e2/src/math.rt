@@ -1,0 +1,2 @@
+// Fused results.
+mod mul_add;
