@@ -1,5 +1,5 @@
 // Posits of 32 bits with two exponent digits: the patterns by value, their constants, and a pattern taken apart.
-mod math; // math.rt: fused results
+mod math; // math.rt: the root, and fused results
 mod ops; // ops.rt: the arithmetic
 mod scaled; // scaled.rt: a size as a significand at a scale
 mod terms; // terms.rt: posits and products as exact terms

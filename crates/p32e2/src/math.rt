@@ -1,2 +1,3 @@
-// Fused results.
+// The root, and fused results.
 mod mul_add;
+mod sqrt;

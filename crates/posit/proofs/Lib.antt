@@ -8,6 +8,7 @@ pub mod Below
 pub mod Rounding
 pub mod LongPattern
 pub mod Unit
+pub mod Root
 pub mod Packing
 pub mod Signs
 pub mod Value
