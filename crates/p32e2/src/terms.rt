@@ -52,9 +52,10 @@ fn multiplied(negative: bool, x: Scaled, y: Scaled) -> Term
             significand: n << 2,
         }
     } else {
+        let next = scale + 1;
         Term {
             negative,
-            scale: scale + 1,
+            scale: next,
             significand: n << 1,
         }
     }

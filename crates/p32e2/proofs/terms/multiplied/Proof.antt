@@ -30,8 +30,8 @@ mul-n c =
 add-scale : tie.Need-add-scale
 add-scale c = search needs
 
-add-t11 : tie.Need-add-t11
-add-t11 c = search needs
+add-next : tie.Need-add-next
+add-next c = search needs
 
 returns : tie.Need-returns
 returns c =
@@ -50,4 +50,4 @@ returns-2 c =
     (refl, up (x .significand * y .significand) (x .scale + y .scale) 1 (x .scale + y .scale + 1) (omega arith) (omega arith) (omega arith))
 
 pub multiplied-spec : {M : Type 1} → statement M
-multiplied-spec = tie.close (tie.spec cast-n cast-n-2 mul-n add-scale add-t11 returns returns-2)
+multiplied-spec = tie.close (tie.spec cast-n cast-n-2 mul-n add-scale add-next returns returns-2)
