@@ -1,7 +1,9 @@
 // The arithmetic: each result is the exact one, rounded once, or NaR.
 ghost use mathlib.Core.Path.{_≡_};
+ghost use mathlib.Core.Bool.{_||_};
 ghost use Prim.Native.Nat.{_*_, _^_};
-ghost use Rattle.posit.specs.Pattern.{opposite, Positive, size};
+ghost use lib.Dec.{eqb};
+ghost use Rattle.posit.specs.Pattern.{nar, opposite, Positive, size};
 ghost use Rattle.posit.specs.Exact.{ratio};
 ghost use Rattle.posit.specs.Rounding.{round, signed};
 ghost use Rattle.posit.specs.Operation.{sum, difference, product, quotient};
@@ -26,10 +28,7 @@ impl P32E2 {
     {
         let p = self.0;
         let q = other.0;
-        if p == P32E2::NAR.0 {
-            return P32E2::NAR;
-        }
-        if q == P32E2::NAR.0 {
+        if either_nar(p, q) {
             return P32E2::NAR;
         }
         if p == 0 {
@@ -52,10 +51,7 @@ impl P32E2 {
     {
         let p = self.0;
         let q = other.0;
-        if p == P32E2::NAR.0 {
-            return P32E2::NAR;
-        }
-        if q == P32E2::NAR.0 {
+        if either_nar(p, q) {
             return P32E2::NAR;
         }
         if p == 0 {
@@ -72,10 +68,7 @@ impl P32E2 {
     {
         let p = self.0;
         let d = other.0;
-        if p == P32E2::NAR.0 {
-            return P32E2::NAR;
-        }
-        if d == P32E2::NAR.0 {
+        if either_nar(p, d) {
             return P32E2::NAR;
         }
         if d == 0 {
@@ -87,6 +80,16 @@ impl P32E2 {
         let negative = (p > P32E2::NAR.0) != (d > P32E2::NAR.0);
         div_sizes(negative, sign_off(self), sign_off(other))
     }
+}
+
+// Whether one of two patterns is NaR.
+pub(crate) fn either_nar(p: u32, q: u32) -> bool
+    ensures { λ r. ⌜ r ≡ (eqb p (nar 31) || eqb q (nar 31)) ⌝ }
+{
+    if p == P32E2::NAR.0 {
+        return true;
+    }
+    q == P32E2::NAR.0
 }
 
 // The quotient of two sizes, rounded, with its sign. The significands' quotient has its leading one at bit 31 or 32, which `pack` does not read, and the

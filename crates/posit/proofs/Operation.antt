@@ -1,17 +1,19 @@
 -- How the operations hang together: a NaR operand, a zero operand, and the forms that subtract, which are those that add on the opposite of an operand. So
 -- code needs one addition of two terms, and one product.
-use mathlib.Core.Path.{_≡_, refl, sym, ap, _∙_}
+use mathlib.Core.Path.{_≡_, refl, sym, ap, ap₂, _∙_}
 use mathlib.Core.Logic.{_≢_}
+use mathlib.Core.Bool.{Bool, true, false, _||_, or-true, true≢false}
 use Prim.Native.Nat.{ℕ, zero, suc, _+_, _-_, _^_, _≤_, _<_}
 use native.Mathlib.Nat.{sub-zero, mod-self, pow-suc, mul-add, mul-le-mul-left}
 use native.Mathlib.Decide.{decLt, ℕ-discrete}
 use native.Mathlib.Omega.{arith}
 use borrow.Author.Tests.{eq-eqb, ne-eqb}
 use lib.Arith.{lt-of-le-ne}
+use lib.Dec.{eqb}
 use lib.IntN.{ℤ, pos, negℤ, _+ℤ_, _-ℤ_, _*ℤ_, negℤ-negℤ, +ℤ-idl, +ℤ-idr, +ℤ-comm, zero-*ℤ, *ℤ-zero}
 use lib.Pow.{pow-pos}
 use Rattle.posit.specs.Pattern.{nar, opposite, size, value, least, unit}
-use Rattle.posit.specs.Operation.{unlessNar, exact, exactProduct, roundedHere, sum, difference, product, fusedSum, fusedDifference, productTaken}
+use Rattle.posit.specs.Operation.{unlessNar, exact, exactProduct, roundedHere, sum, difference, product, quotient, fusedSum, fusedDifference, productTaken}
 use Rattle.posit.proofs.Signs.{negated-product}
 use Rattle.posit.proofs.Value.{opposite-is, opposite-twice, opposite-positive, value-positive, value-negative, rounded-own}
 
@@ -70,39 +72,51 @@ module _ (es w : ℕ) where
       go (yes h) = nar-gives a r h
       go (no h) = real-gives a r h ∙ e
 
-  module _ (a b : ℕ) where
-    pub sum-first : a ≡ nar w → sum es w a b ≡ nar w
-    unfolding sum
-    sum-first e = nar-gives a _ e
+  -- one of the first two operands is NaR, as a test
+  abbrev pub eitherNar : ℕ → ℕ → Bool
+  eitherNar a b = eqb a (nar w) || eqb b (nar w)
 
-    pub sum-second : b ≡ nar w → sum es w a b ≡ nar w
+  pub neither-nar : (a b : ℕ) → eitherNar a b ≡ false → (a ≢ nar w) × (b ≢ nar w)
+  neither-nar a b e = go (ℕ-discrete a (nar w)) (ℕ-discrete b (nar w))
+    where
+      go : Dec (a ≡ nar w) → Dec (b ≡ nar w) → (a ≢ nar w) × (b ≢ nar w)
+      go (yes h) k = absurd (true≢false (sym (ap (λ (t : Bool). t || eqb b (nar w)) (eq-eqb a (nar w) h)) ∙ e))
+      go (no h) (yes k) = absurd (true≢false (sym (or-true (eqb a (nar w))) ∙ ap (λ (t : Bool). eqb a (nar w) || t) (sym (eq-eqb b (nar w) k)) ∙ e))
+      go (no h) (no k) = (h, k)
+
+  either-gives : (a b r : ℕ) → eitherNar a b ≡ true → unlessNar es w a (unlessNar es w b r) ≡ nar w
+  either-gives a b r e = go (ℕ-discrete a (nar w)) (ℕ-discrete b (nar w))
+    where
+      go : Dec (a ≡ nar w) → Dec (b ≡ nar w) → unlessNar es w a (unlessNar es w b r) ≡ nar w
+      go (yes h) k = nar-gives a _ h
+      go (no h) (yes k) = nar-through a (nar-gives b r k)
+      go (no h) (no k) = absurd (true≢false (sym e ∙ ap₂ _||_ (ne-eqb a (nar w) h) (ne-eqb b (nar w) k)))
+
+  module _ (a b : ℕ) where
+    pub sum-nar : eitherNar a b ≡ true → sum es w a b ≡ nar w
     unfolding sum
-    sum-second e = nar-through a (nar-gives b _ e)
+    sum-nar e = either-gives a b _ e
 
     pub sum-real : a ≢ nar w → b ≢ nar w → sum es w a b ≡ roundedHere es w (exact es w a +ℤ exact es w b)
     unfolding sum
     sum-real m n = real-gives a _ m ∙ real-gives b _ n
 
-    pub product-first : a ≡ nar w → product es w a b ≡ nar w
+    pub product-nar : eitherNar a b ≡ true → product es w a b ≡ nar w
     unfolding product
-    product-first e = nar-gives a _ e
-
-    pub product-second : b ≡ nar w → product es w a b ≡ nar w
-    unfolding product
-    product-second e = nar-through a (nar-gives b _ e)
+    product-nar e = either-gives a b _ e
 
     pub product-real : a ≢ nar w → b ≢ nar w → product es w a b ≡ roundedHere es w (exactProduct es w a b)
     unfolding product
     product-real m n = real-gives a _ m ∙ real-gives b _ n
 
-    module _ (c : ℕ) where
-      pub fused-first : a ≡ nar w → fusedSum es w a b c ≡ nar w
-      unfolding fusedSum
-      fused-first e = nar-gives a _ e
+    pub quotient-nar : eitherNar a b ≡ true → quotient es w a b ≡ nar w
+    unfolding quotient
+    quotient-nar e = either-gives a b _ e
 
-      pub fused-second : b ≡ nar w → fusedSum es w a b c ≡ nar w
+    module _ (c : ℕ) where
+      pub fused-nar : eitherNar a b ≡ true → fusedSum es w a b c ≡ nar w
       unfolding fusedSum
-      fused-second e = nar-through a (nar-gives b _ e)
+      fused-nar e = either-gives a b _ e
 
       pub fused-third : c ≡ nar w → fusedSum es w a b c ≡ nar w
       unfolding fusedSum

@@ -58,37 +58,28 @@ module _ (es w u : ℕ) (fine : least es (suc w) ≤ u) (p d : ℕ) (p-positive 
 
 -- ---- the cases
 
-module _ (es w a b : ℕ) where
-  pub quotient-of-nar : a ≡ nar w → quotient es w a b ≡ nar w
-  unfolding quotient
-  quotient-of-nar e = rw (eq-eqb a (nar w) e)
-
-  module _ (real : a ≢ nar w) where
-    pub quotient-by-nar : b ≡ nar w → quotient es w a b ≡ nar w
+module _ (es w a b : ℕ) (real : a ≢ nar w) where
+  module _ (by-real : b ≢ nar w) where
+    pub quotient-by-zero : b ≡ 0 → quotient es w a b ≡ nar w
     unfolding quotient
-    quotient-by-nar e = rw (ne-eqb a (nar w) real, eq-eqb b (nar w) e)
+    quotient-by-zero e = rw (ne-eqb a (nar w) real, ne-eqb b (nar w) by-real, eq-eqb b 0 e)
 
-    module _ (by-real : b ≢ nar w) where
-      pub quotient-by-zero : b ≡ 0 → quotient es w a b ≡ nar w
+    module _ (by-some : b ≢ 0) where
+      pub quotient-of-zero : a ≡ 0 → quotient es w a b ≡ 0
       unfolding quotient
-      quotient-by-zero e = rw (ne-eqb a (nar w) real, ne-eqb b (nar w) by-real, eq-eqb b 0 e)
+      quotient-of-zero e = rw (ne-eqb a (nar w) real, ne-eqb b (nar w) by-real, ne-eqb b 0 by-some, eq-eqb a 0 e)
 
-      module _ (by-some : b ≢ 0) where
-        pub quotient-of-zero : a ≡ 0 → quotient es w a b ≡ 0
+      module _ (some : a ≢ 0) where
+        quotient-is : let u = unit es w in
+            quotient es w a b ≡ signed w (xor (isNegative w a) (isNegative w b)) (round es w u (ratio (size es w u (unsigned w a) * 2 ^ u) (size es w u (unsigned w b))))
         unfolding quotient
-        quotient-of-zero e = rw (ne-eqb a (nar w) real, ne-eqb b (nar w) by-real, ne-eqb b 0 by-some, eq-eqb a 0 e)
+        quotient-is = rw (ne-eqb a (nar w) real, ne-eqb b (nar w) by-real, ne-eqb b 0 by-some, ne-eqb a 0 some)
 
-        module _ (some : a ≢ 0) where
-          quotient-is : let u = unit es w in
-              quotient es w a b ≡ signed w (xor (isNegative w a) (isNegative w b)) (round es w u (ratio (size es w u (unsigned w a) * 2 ^ u) (size es w u (unsigned w b))))
-          unfolding quotient
-          quotient-is = rw (ne-eqb a (nar w) real, ne-eqb b (nar w) by-real, ne-eqb b 0 by-some, ne-eqb a 0 some)
-
-          module _ (short : a < 2 ^ suc w) (by-short : b < 2 ^ suc w) (fine : least es (suc w) ≤ unit es w) (i j : ℕ) where
-            pub quotient-real : let u = unit es w in
-                quotient es w a b
-                ≡ signed w (xor (isNegative w a) (isNegative w b)) (round es w (u + i) (ratio (size es w (u + j) (unsigned w a) * 2 ^ (u + i)) (size es w (u + j) (unsigned w b))))
-            quotient-real =
-                let p = unsigned-positive w a short some real in
-                let d = unsigned-positive w b by-short by-some by-real in
-                quotient-is ∙ ap (signed w (xor (isNegative w a) (isNegative w b))) (sym (ratio-finer es w (unit es w) fine (unsigned w a) (unsigned w b) p d i j))
+        module _ (short : a < 2 ^ suc w) (by-short : b < 2 ^ suc w) (fine : least es (suc w) ≤ unit es w) (i j : ℕ) where
+          pub quotient-real : let u = unit es w in
+              quotient es w a b
+              ≡ signed w (xor (isNegative w a) (isNegative w b)) (round es w (u + i) (ratio (size es w (u + j) (unsigned w a) * 2 ^ (u + i)) (size es w (u + j) (unsigned w b))))
+          quotient-real =
+              let p = unsigned-positive w a short some real in
+              let d = unsigned-positive w b by-short by-some by-real in
+              quotient-is ∙ ap (signed w (xor (isNegative w a) (isNegative w b))) (sym (ratio-finer es w (unit es w) fine (unsigned w a) (unsigned w b) p d i j))

@@ -2,6 +2,7 @@
 ghost use mathlib.Core.Path.{_≡_};
 ghost use Rattle.posit.specs.Operation.{fusedSum, fusedDifference, productTaken};
 use crate::P32E2;
+use crate::ops::either_nar;
 use crate::sums::sum_of;
 use crate::terms::pack_term;
 use crate::terms::product_of;
@@ -15,10 +16,7 @@ impl P32E2 {
         let p = self.0;
         let q = a.0;
         let c = b.0;
-        if p == P32E2::NAR.0 {
-            return P32E2::NAR;
-        }
-        if q == P32E2::NAR.0 {
+        if either_nar(p, q) {
             return P32E2::NAR;
         }
         if c == P32E2::NAR.0 {
