@@ -1,6 +1,6 @@
 // The one rounding: a size told by a scale, a fraction and a sticky bit becomes a pattern.
 ghost use mathlib.Core.Path.{_≡_};
-ghost use Prim.Native.Nat.{suc, _-_, _*_, _^_, _≤_, _<_};
+ghost use Prim.Native.Nat.{suc, _-_, _*_, _/_, _^_, _≤_, _<_};
 ghost use Rattle.posit.specs.Exact.{whole};
 ghost use Rattle.posit.specs.Rounding.{round, signed};
 ghost use Rattle.posit.proofs.Built.{built};
@@ -28,10 +28,18 @@ fn pack_size(scale: u32, fraction: u64, sticky: bool) -> u32
         return P32E2::MAX.0;
     }
     let t = ((scale % 4) as u64) * 0x2000_0000_0000_0000 + fraction % 0x2000_0000_0000_0000;
+    from_digits(1024 <= scale, run_less(scale), t, sticky)
+}
+
+// One less than the length of the run, by the scale. A function of its own, since then both runs are packed by the same code, without a branch.
+fn run_less(scale: u32) -> u32
+    requires { ⌜ (904 ≤ scale) × (scale < 1144) ⌝ }
+    ensures { λ m. ⌜ (m ≤ 29) × (scale < 1024 → m ≡ 255 - scale / 4) × (1024 ≤ scale → m ≡ scale / 4 - 256) ⌝ }
+{
     if scale < 1024 {
-        from_digits(false, 255 - scale / 4, t, sticky)
+        255 - scale / 4
     } else {
-        from_digits(true, scale / 4 - 256, t, sticky)
+        scale / 4 - 256
     }
 }
 
@@ -63,10 +71,8 @@ fn half_even(h: u32, more: bool) -> u32
 {
     let r = h / 2;
     if more {
-        return r + h % 2;
+        r + h % 2
+    } else {
+        r + (h % 2 + r % 2) / 2
     }
-    if r % 2 == 1 {
-        return r + h % 2;
-    }
-    r
 }

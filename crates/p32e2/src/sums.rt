@@ -1,6 +1,6 @@
 // The sum of two exact terms, rounded once: align, add or subtract, normalise.
 ghost use mathlib.Core.Path.{_≡_};
-ghost use mathlib.Core.Bool.{true};
+ghost use mathlib.Core.Bool.{true, cond};
 ghost use Prim.Native.Nat.{_+_, _-_, _*_, _/_, _%_, _^_, _≤_, _<_};
 ghost use lib.Dec.{ltb};
 ghost use lib.IntN.{_+ℤ_};
@@ -17,11 +17,15 @@ pub(crate) fn sum_of(x: Term, y: Term) -> P32E2
     requires { ⌜ Normal (x .scale) (x .significand) × Normal (y .scale) (y .significand) ⌝ }
     ensures { λ r. ⌜ r .0 ≡ rounded 2 31 1086 (number x +ℤ number y) ⌝ }
 {
-    if below(x, y) {
-        sum_ordered(y, x)
-    } else {
-        sum_ordered(x, y)
-    }
+    let b = below(x, y);
+    sum_ordered(chosen(b, y, x), chosen(b, x, y))
+}
+
+// To choose the terms, and not what to call, leaves no branch.
+fn chosen(first: bool, x: Term, y: Term) -> Term
+    ensures { λ r. ⌜ r ≡ cond first x y ⌝ }
+{
+    if first { x } else { y }
 }
 
 // Whether x is the smaller of the two without their signs.
@@ -29,13 +33,11 @@ fn below(x: Term, y: Term) -> bool
     requires { ⌜ Normal (x .scale) (x .significand) × Normal (y .scale) (y .significand) ⌝ }
     ensures { λ r. ⌜ r ≡ ltb (magnitude x) (magnitude y) ⌝ }
 {
-    if x.scale < y.scale {
-        return true;
+    if x.scale == y.scale {
+        x.significand < y.significand
+    } else {
+        x.scale < y.scale
     }
-    if y.scale < x.scale {
-        return false;
-    }
-    x.significand < y.significand
 }
 
 // The sum has the sign of the greater term, high. The digits of low that fall below the last one of high are lost to the sticky bit.

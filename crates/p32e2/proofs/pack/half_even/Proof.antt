@@ -27,19 +27,19 @@ tie-adds h n f g = go (ℕ-discrete (h % 2) 0)
 add-result : tie.Need-add-result
 add-result c = search needs
 
-returns : tie.Need-returns
-returns c = rw (c .if1 .taken) (more-adds (c .before .args .h))
-
 add-result-2 : tie.Need-add-result-2
 add-result-2 c = search needs
 
-returns-2 : tie.Need-returns-2
-returns-2 c = let h = c .before .before .args .h in rw (c .before .if1 .left) (tie-adds h (h % 2) (λ e. omega arith) (λ e. e))
+add-result-3 : tie.Need-add-result-3
+add-result-3 c = search needs
 
-returns-3 : tie.Need-returns-3
-returns-3 c =
-    let h = c .before .before .args .h in
-    rw (c .before .if1 .left) (omega (arith, tie-adds h 0 (λ e. omega arith) (λ e. omega arith)))
+returns : tie.Need-returns
+returns c = rw (c .if1 .taken) (more-adds (c .before .args .h))
+
+returns-2 : tie.Need-returns-2
+returns-2 c =
+    let h = c .before .args .h in
+    rw (c .if1 .left) (tie-adds h ((h % 2 + h / 2 % 2) / 2) (λ e. omega arith) (λ e. omega arith))
 
 pub half-even-spec : {M : Type 1} → statement M
-half-even-spec = tie.close (tie.spec add-result returns add-result-2 returns-2 returns-3)
+half-even-spec = tie.close (tie.spec add-result add-result-2 add-result-3 returns returns-2)

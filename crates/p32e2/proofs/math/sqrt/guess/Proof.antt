@@ -7,11 +7,8 @@ use Rattle.p32e2.proofs.math.sqrt.guess.Tie as tie
 cast-x : tie.Need-cast-x
 cast-x c = search needs
 
-mul-line : tie.Need-mul-line
-mul-line c = search needs
-
-array-read-line : tie.Need-array-read-line
-array-read-line c = search needs
+line-of-requires : tie.Need-line-of-requires
+line-of-requires c κs = search needs
 
 mul-wrapping-sub-u32 : tie.Need-mul-wrapping-sub-u32
 mul-wrapping-sub-u32 c = record { fits = product-lt 16 (search needs) (search needs) }
@@ -72,8 +69,7 @@ guess-spec =
     tie.close
     (tie.spec
     cast-x
-    mul-line
-    array-read-line
+    line-of-requires
     mul-wrapping-sub-u32
     wrapping-sub-u32-requires
     upper-requires
