@@ -19,6 +19,7 @@ pub mod Operation
 pub mod Quotient
 pub mod Digits
 pub mod Complement
+pub mod State
 mod Table
 mod Sheet
 mod Vectors

@@ -37,7 +37,7 @@ same [] (y ∷ ys) = false
 same (x ∷ xs) [] = false
 same (x ∷ xs) (y ∷ ys) = eqb x y && same xs ys
 
--- (5.5) the claim differs in any byte from the image of the batch begun from zero
+-- (4.12, 5.5) the claim differs in any byte from the image of the batch begun from zero
 unfoldable pub claimRefusal : ℕ → ℕ → ℕ → List ℕ → List ℕ → List ℕ → ℕ
 claimRefusal es w bits xs ys claim =
     let rebuilt = image bits (batch es w bits clear xs ys) in
