@@ -13,7 +13,7 @@ nar w = 2 ^ w
 unfoldable pub opposite : ℕ → ℕ → ℕ
 opposite w p = (2 ^ suc w - p) % 2 ^ suc w
 
--- (1.3) the top bit is set
+-- (1.3) the top bit is set, and the pattern is not NaR
 abbrev pub isNegative : ℕ → ℕ → Bool
 isNegative w p = ltb (nar w) p
 
