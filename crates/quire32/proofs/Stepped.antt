@@ -1,0 +1,90 @@
+-- A step on words: what the definitions make of NaR, and of an operand that is added to the number of a state (`Range.steps`), spelt in words.
+use mathlib.Core.Path.{_≡_, refl, sym, ap, ap₂, _∙_}
+use mathlib.Core.Logic.{_≢_}
+use mathlib.Core.Bool.{Bool, true, false, cond}
+use mathlib.Core.List.{List, [], _∷_}
+use Prim.Native.Nat.{ℕ, _+_, _-_, _*_, _/_, _%_, _^_, _≤_, _<_}
+use native.Mathlib.Nat.{add-zero, mul-comm, lt-of-lt-of-le, mul-le-mul-left, mul-lt-mul-of-pos-right, div-lt-iff-lt-mul}
+use native.Mathlib.Omega.{arith}
+use borrow.Author.Tests.{eq-eqb, ne-eqb}
+use mir.Val.{boolByte}
+use lib.Dec.{eqb, ltb, leb, lit<}
+use lib.IntN.{ℤ, natAbs, _+ℤ_}
+use lib.ListN.{length}
+use lib.Pow.{pow-pos, pow-mono}
+use Rattle.posit.specs.Digits.{number, digits, Below, reading, complement}
+use Rattle.posit.specs.Accumulator.{State, notReal, total, kept, plus, minus, bitsOf, stateOf, words, fromWords}
+use Rattle.posit.proofs.Digits.{digits-number}
+use Rattle.posit.proofs.Signs.{withSign}
+use Rattle.quire32.specs.Words.{wide}
+use Rattle.quire32.specs.Operand.{turned, escaped, directedBy}
+use Rattle.quire32.specs.Step.{moved}
+use Rattle.quire32.proofs.Range.{wrap, keptAs, steps}
+
+-- ---- NaR
+
+abbrev pub narWords : List ℕ
+narWords = 2 ^ 63 ∷ 0 ∷ 0 ∷ 0 ∷ 0 ∷ 0 ∷ 0 ∷ 0 ∷ []
+
+pub nar-spelt : narWords ≡ words 512 notReal
+unfolding words bitsOf digits
+nar-spelt = refl
+
+pub plus-nar : (q : State) → plus 512 q notReal ≡ notReal
+unfolding plus
+plus-nar notReal = refl
+plus-nar (total t) = refl
+
+pub nar-plus : (x : State) → plus 512 notReal x ≡ notReal
+unfolding plus
+nar-plus x = refl
+
+-- ---- words and their number
+
+pub read-nar : (ws : List ℕ) → wide ws ≡ 2 ^ 511 → fromWords 512 ws ≡ notReal
+unfolding fromWords stateOf
+read-nar ws e = rw (eq-eqb (wide ws) (2 ^ 511) e)
+
+pub spelt : (q : State) (ws : List ℕ) → length ws ≡ 8 → Below (2 ^ 64) ws → wide ws ≡ bitsOf 512 q → ws ≡ words 512 q
+unfolding words
+spelt q ws e b n = sym (digits-number (2 ^ 64) (pow-pos 64) ws b) ∙ ap₂ (digits (2 ^ 64)) e n
+
+-- ---- an operand that is added
+
+bits-kept : (t : ℤ) → bitsOf 512 (kept 512 t) ≡ keptAs (2 ^ 511) t
+unfolding bitsOf
+bits-kept t = go (ltb (natAbs t) (2 ^ 511))
+  where
+    go : (b : Bool) → bitsOf 512 (cond b (total t) notReal) ≡ cond b (complement (2 ^ 511) t) (2 ^ 511)
+    go true = refl
+    go false = refl
+
+bits-plus : (ws : List ℕ) (t : ℤ) → wide ws ≢ 2 ^ 511 → bitsOf 512 (plus 512 (fromWords 512 ws) (total t)) ≡ keptAs (2 ^ 511) (reading (2 ^ 511) (wide ws) +ℤ t)
+unfolding plus fromWords stateOf
+bits-plus ws t n = rw (ne-eqb (wide ws) (2 ^ 511) n) (bits-kept (reading (2 ^ 511) (wide ws) +ℤ t))
+
+-- what the complement of an operand lacks is carried in
+carried-in : (s : Bool) (H n m : ℕ) → m < H → n + turned s (2 * H - 1) m + boolByte s ≡ n + wrap H s m
+carried-in true H n m h = omega arith
+carried-in false H n m h = add-zero (n + m)
+
+-- an operand that is moved up by fewer than 512 digits is within the range
+pub amount-below : (m d : ℕ) → m < 2 ^ 64 → d < 512 → m * 2 ^ d / 2 ^ 64 < 2 ^ 511
+amount-below m d h k =
+    div-lt-iff-lt-mul (pow-pos 64) .1
+    (lt-of-lt-of-le (mul-lt-mul-of-pos-right h (pow-pos d)) (rw (mul-comm (2 ^ 511) (2 ^ 64)) (mul-le-mul-left (2 ^ 64) (pow-mono {i = d} {j = 511} (omega arith)))))
+
+-- n is the number before, y that of the operand's words, and z that of the sum
+module _ (s : Bool) (ws : List ℕ) (m z : ℕ) (ne : wide ws ≢ 2 ^ 511) (short : wide ws < 2 ^ 512) (small : m < 2 ^ 511)
+    (sum : z ≡ (wide ws + turned s (2 ^ 512 - 1) m + boolByte s) % 2 ^ 512) where
+  pub stepped-bits : cond (escaped (leb (2 ^ 511) (wide ws)) s (leb (2 ^ 511) z)) (2 ^ 511) z ≡ bitsOf 512 (plus 512 (fromWords 512 ws) (total (withSign s m)))
+  stepped-bits =
+      let wrapped : z ≡ (wide ws + wrap (2 ^ 511) s m) % 2 ^ 512 = sum ∙ ap (λ (n : ℕ). n % 2 ^ 512) (carried-in s (2 ^ 511) (wide ws) m small) in
+      rw wrapped (sym (bits-plus ws (withSign s m) ne ∙ steps (2 ^ 511) (wide ws) m ne short small s))
+
+-- ---- the direction
+
+pub directed-moves : (d : Bool) (q x : State) → plus 512 q (directedBy d x) ≡ moved d q x
+unfolding minus
+directed-moves true q x = refl
+directed-moves false q x = refl

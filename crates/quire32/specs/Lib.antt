@@ -1,0 +1,4 @@
+-- What the contracts of this crate mean.
+pub mod Words
+pub mod Operand
+pub mod Step

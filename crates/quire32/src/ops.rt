@@ -1,0 +1,92 @@
+// The steps, by value: an operand is placed, added, and the new total judged by the range.
+ghost use mathlib.Core.Path.{_≡_};
+ghost use mathlib.Core.Bool.{true, cond};
+ghost use Prim.Native.Nat.{_-_, _^_, _<_};
+ghost use lib.Dec.{leb};
+ghost use Rattle.posit.specs.Accumulator.{ofPosit, ofProduct, words, fromWords};
+ghost use Rattle.quire32.specs.Words.{wide};
+ghost use Rattle.quire32.specs.Operand.{amount, brought, directedBy, turned, escaped};
+ghost use Rattle.quire32.specs.Step.{moved};
+use super::operands::Operand;
+use super::operands::posit_of;
+use super::operands::product_of;
+use super::words::add;
+use super::words::is_alone;
+use super::words::sign_of;
+use p32e2::P32E2;
+
+// Word 0 of NaR; its other words are 0.
+pub(crate) const NAR_WORD: u64 = 0x8000_0000_0000_0000;
+
+// The exact product of a and b added, or taken where `plus` is false.
+pub fn fdp(q: [u64; 8], a: P32E2, b: P32E2, plus: bool) -> [u64; 8]
+    ensures { λ r. ⌜ r ≡ words 512 (moved plus (fromWords 512 q) (ofProduct 2 31 (a .0) (b .0))) ⌝ }
+{
+    step(q, directed(product_of(a, b), plus))
+}
+
+// The posit a added, or taken where `plus` is false.
+pub fn fdp_one(q: [u64; 8], a: P32E2, plus: bool) -> [u64; 8]
+    ensures { λ r. ⌜ r ≡ words 512 (moved plus (fromWords 512 q) (ofPosit 2 31 (a .0))) ⌝ }
+{
+    step(q, directed(posit_of(a), plus))
+}
+
+// To take an operand is to add it with the other sign.
+fn directed(x: Operand, plus: bool) -> Operand
+    requires { ⌜ x .shift < 512 ⌝ }
+    ensures { λ r. ⌜ (r .shift < 512) × (brought r ≡ directedBy plus (brought x)) ⌝ }
+{
+    Operand {
+        nar: x.nar,
+        negative: x.negative == plus,
+        shift: x.shift,
+        significand: x.significand,
+    }
+}
+
+fn step(q: [u64; 8], x: Operand) -> [u64; 8]
+    requires { ⌜ x .shift < 512 ⌝ }
+    ensures { λ r. ⌜ r ≡ words 512 (moved true (fromWords 512 q) (brought x)) ⌝ }
+{
+    if x.nar {
+        return [NAR_WORD, 0, 0, 0, 0, 0, 0, 0];
+    }
+    if is_alone(q, NAR_WORD) {
+        return [NAR_WORD, 0, 0, 0, 0, 0, 0, 0];
+    }
+    judged(q, x.negative, add(q, placed(x), x.negative))
+}
+
+// The words of an operand. Where it is below 0 they are complemented, and the one that its negative lacks is carried into the sum.
+fn placed(x: Operand) -> [u64; 8]
+    requires { ⌜ x .shift < 512 ⌝ }
+    ensures { λ r. ⌜ wide r ≡ turned (x .negative) (2 ^ 512 - 1) (amount x) ⌝ }
+{
+    let j = (x.shift / 64) as usize;
+    let o = x.shift % 64;
+    let mut r = [turned_word(0, x.negative); 8];
+    r[7 - j] = turned_word((x.significand >> 1) >> (63 - o), x.negative);
+    if j == 0 {
+        return r;
+    }
+    r[8 - j] = turned_word(x.significand << o, x.negative);
+    r
+}
+
+fn turned_word(x: u64, complemented: bool) -> u64
+    ensures { λ r. ⌜ r ≡ turned complemented (2 ^ 64 - 1) x ⌝ }
+{
+    if complemented { !x } else { x }
+}
+
+// The range: where the total and the operand were of one sign, and the wrapped sum is of the other, the exact total is outside. The three signs are tested
+// at once, since they are hard to foretell one by one.
+fn judged(before: [u64; 8], negative: bool, after: [u64; 8]) -> [u64; 8]
+    ensures { λ r. ⌜ wide r ≡ cond (escaped (leb (2 ^ 511) (wide before)) negative (leb (2 ^ 511) (wide after))) (2 ^ 511) (wide after) ⌝ }
+{
+    if sign_of(before) + 2 * sign_of(after) == 2 - negative as u64 {
+        return [NAR_WORD, 0, 0, 0, 0, 0, 0, 0];
+    }
+    after
+}
