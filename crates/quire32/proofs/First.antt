@@ -11,6 +11,7 @@ use lib.Arith.{digits-lt, digits-div, digits-mod}
 use lib.Dec.{eqb, leb}
 use lib.ListN.{length, getD, drop}
 use Rattle.posit.specs.Digits.{number, Below}
+use Rattle.quire32.specs.Words.{wide}
 use Rattle.quire32.proofs.Places.{number-drop, number-drop-lt}
 
 pub first-digit : (B n : ℕ) (ws : List ℕ) → length ws ≡ suc n → Below B ws → (number B ws ≡ getD ws 0 0 * B ^ n + number B (drop 1 ws)) × (number B (drop 1 ws) < B ^ n)
@@ -37,9 +38,15 @@ module _ (P x v : ℕ) (low : v < P) where
   behind-some y z = sym (ne-eqb (x * P + v) (y * P) (λ e. absurd (omega (arith, same-first y (e ∙ sym (add-zero (y * P))) .1))))
 
   -- the number reaches h in its first digit exactly where that digit does
-  pub reaches : (h : ℕ) → leb h x ≡ leb (h * P) (x * P + v)
+  reaches : (h : ℕ) → leb h x ≡ leb (h * P) (x * P + v)
   reaches h = go (decLt x h)
     where
       go : Dec (x < h) → leb h x ≡ leb (h * P) (x * P + v)
       go (yes l) = rw (lt-leb h x l, lt-leb (h * P) (x * P + v) (digits-lt l low))
       go (no l) = rw (le-leb h x (omega arith), le-leb (h * P) (x * P + v) (omega (arith, mul-le-mul-right {m = h} {n = x} P (omega arith))))
+
+-- eight words are from 2 ^ 511 on exactly where the first is from 2 ^ 63 on
+pub sign-seen : (ws : List ℕ) → length ws ≡ 8 → Below (2 ^ 64) ws → leb (2 ^ 63) (getD ws 0 0) ≡ leb (2 ^ 511) (wide ws)
+sign-seen ws e b =
+    let f = first-digit (2 ^ 64) 7 ws e b in
+    reaches ((2 ^ 64) ^ 7) (getD ws 0 0) (wide (drop 1 ws)) (f .1) (2 ^ 63) ∙ ap (leb (2 ^ 511)) (sym (f .0))

@@ -7,3 +7,4 @@ pub mod Range
 pub mod Brought
 pub mod Placed
 pub mod Stepped
+pub mod Leads

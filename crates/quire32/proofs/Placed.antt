@@ -14,7 +14,7 @@ use Rattle.posit.specs.Digits.{number}
 use Rattle.posit.proofs.Arith.{pow-sum}
 use Rattle.quire32.specs.Operand.{turned}
 
-pow-mul : (m n : ℕ) → 2 ^ (m * n) ≡ (2 ^ m) ^ n
+pub pow-mul : (m n : ℕ) → 2 ^ (m * n) ≡ (2 ^ m) ^ n
 pow-mul m zero = rw (mul-zero, pow-zero 2, pow-zero (2 ^ m))
 pow-mul m (suc n) = rw (mul-suc, pow-add, pow-mul m n, pow-suc)
 
@@ -96,11 +96,14 @@ module _ (s : Bool) (B n : ℕ) (p : 0 < B) where
 
 -- a significand m, moved up by o digits within its word and by j words
 module _ (m o : ℕ) (below : o < 64) where
-  pub upper-word : m / 2 / 2 ^ (63 - o) ≡ m * 2 ^ o / 2 ^ 64
-  upper-word =
+  pub moved-down : m / 2 / 2 ^ (63 - o) ≡ m / 2 ^ (64 - o)
+  moved-down =
       let e : 1 + (63 - o) ≡ 64 - o = omega arith in
-      shr-shr m 1 (63 - o)
-      ∙ ap (λ (n : ℕ). m / 2 ^ n) e
+      shr-shr m 1 (63 - o) ∙ ap (λ (n : ℕ). m / 2 ^ n) e
+
+  upper-word : m / 2 / 2 ^ (63 - o) ≡ m * 2 ^ o / 2 ^ 64
+  upper-word =
+      moved-down
       ∙ sym (ap (λ (n : ℕ). m * 2 ^ o / n) (sym (pow-sum (64 - o) o 64 (omega arith))) ∙ mul-div-mul-right m (2 ^ (64 - o)) (pow-pos o))
 
   pub amount-low : (d : ℕ) → d ≡ o → m * 2 ^ d / 2 ^ 64 ≡ m * 2 ^ o / 2 ^ 64 * (2 ^ 64) ^ 0

@@ -22,9 +22,9 @@ module _ (B : ℕ) where
   unfolding number
   number-drop ws i h = rw (drop-cons ws i 0, length-drop)
 
-  pub number-none : (n : ℕ) (ws : List ℕ) → length ws ≡ n → number B (drop n ws) ≡ 0
+  pub number-none : (i : ℕ) (ws : List ℕ) → length ws ≤ i → number B (drop i ws) ≡ 0
   unfolding number
-  number-none n ws e = rw (drop-of-length-le ws {i = n} (omega arith))
+  number-none i ws h = rw (drop-of-length-le ws {i = i} h)
 
   pub below-each : (ws : List ℕ) → ((i : ℕ) → getD ws i 0 < B) → Below B ws
   below-each [] h = tt

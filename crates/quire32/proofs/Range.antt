@@ -27,7 +27,7 @@ keptAs H t = cond (ltb (natAbs t) H) (complement H t) H
 mod-high : (x M : ℕ) → M ≤ x → x < M + M → x % M ≡ x - M
 mod-high x M h l = mod-eq-sub-mod h ∙ mod-eq-of-lt (omega arith)
 
-size-of : (s : Bool) (k : ℕ) → natAbs (withSign s k) ≡ k
+pub size-of : (s : Bool) (k : ℕ) → natAbs (withSign s k) ≡ k
 size-of true zero = refl
 size-of true (suc k) = refl
 size-of false k = refl
@@ -51,6 +51,27 @@ module _ (H : ℕ) where
   reading-negative n h l =
       let e : 2 * H - n ≡ suc (2 * H - suc n) = omega arith in
       reading-high H n h ∙ (rw e)
+
+  -- a number without its sign
+  pub size-low : (n : ℕ) → n < H → natAbs (reading H n) ≡ n
+  size-low n h = rw (reading-low H n h)
+
+  pub size-high : (n : ℕ) → 0 < H → H ≤ n → n < 2 * H → natAbs (reading H n) ≡ (2 * H - n) % (2 * H)
+  size-high n z h l = rw (reading-negative n h l, size-of true (2 * H - n)) (sym (mod-eq-of-lt (omega arith)))
+
+  pub size-positive : (n : ℕ) → 0 < n → n < 2 * H → 0 < natAbs (reading H n)
+  size-positive n z l = go (decLt n H)
+    where
+      go : Dec (n < H) → 0 < natAbs (reading H n)
+      go (yes h) = rw (size-low n h) z
+      go (no h) = rw (reading-negative n (omega arith) l, size-of true (2 * H - n)) (omega arith)
+
+  pub sign-and-size : (n : ℕ) → n < 2 * H → withSign (leb H n) (natAbs (reading H n)) ≡ reading H n
+  sign-and-size n l = go (decLt n H)
+    where
+      go : Dec (n < H) → withSign (leb H n) (natAbs (reading H n)) ≡ reading H n
+      go (yes h) = rw (reading-low H n h, lt-leb H n h)
+      go (no h) = rw (reading-negative n (omega arith) l, le-leb H n (omega arith), size-of true (2 * H - n))
 
   module _ (n m : ℕ) (ne : n ≢ H) (ln : n < 2 * H) (lm : m < H) where
     abbrev Steps : Bool → Type 0

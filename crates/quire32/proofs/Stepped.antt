@@ -6,10 +6,10 @@ use mathlib.Core.List.{List, [], _∷_}
 use Prim.Native.Nat.{ℕ, _+_, _-_, _*_, _/_, _%_, _^_, _≤_, _<_}
 use native.Mathlib.Nat.{add-zero, mul-comm, lt-of-lt-of-le, mul-le-mul-left, mul-lt-mul-of-pos-right, div-lt-iff-lt-mul}
 use native.Mathlib.Omega.{arith}
-use borrow.Author.Tests.{eq-eqb, ne-eqb}
+use borrow.Author.Tests.{eq-eqb, ne-eqb, lt-ltb}
 use mir.Val.{boolByte}
 use lib.Dec.{eqb, ltb, leb, lit<}
-use lib.IntN.{ℤ, natAbs, _+ℤ_}
+use lib.IntN.{ℤ, pos, natAbs, _+ℤ_, +ℤ-idl}
 use lib.ListN.{length}
 use lib.Pow.{pow-pos, pow-mono}
 use Rattle.posit.specs.Digits.{number, digits, Below, reading, complement}
@@ -19,7 +19,7 @@ use Rattle.posit.proofs.Signs.{withSign}
 use Rattle.quire32.specs.Words.{wide}
 use Rattle.quire32.specs.Operand.{turned, escaped, directedBy}
 use Rattle.quire32.specs.Step.{moved}
-use Rattle.quire32.proofs.Range.{wrap, keptAs, steps}
+use Rattle.quire32.proofs.Range.{wrap, keptAs, size-of, steps}
 
 -- ---- NaR
 
@@ -45,6 +45,14 @@ pub read-nar : (ws : List ℕ) → wide ws ≡ 2 ^ 511 → fromWords 512 ws ≡ 
 unfolding fromWords stateOf
 read-nar ws e = rw (eq-eqb (wide ws) (2 ^ 511) e)
 
+pub read-clear : (ws : List ℕ) → wide ws ≡ 0 → fromWords 512 ws ≡ total (pos 0)
+unfolding fromWords stateOf reading
+read-clear ws e = rw e
+
+pub read-real : (ws : List ℕ) → wide ws ≢ 2 ^ 511 → fromWords 512 ws ≡ total (reading (2 ^ 511) (wide ws))
+unfolding fromWords stateOf
+read-real ws n = rw (ne-eqb (wide ws) (2 ^ 511) n)
+
 pub spelt : (q : State) (ws : List ℕ) → length ws ≡ 8 → Below (2 ^ 64) ws → wide ws ≡ bitsOf 512 q → ws ≡ words 512 q
 unfolding words
 spelt q ws e b n = sym (digits-number (2 ^ 64) (pow-pos 64) ws b) ∙ ap₂ (digits (2 ^ 64)) e n
@@ -60,8 +68,8 @@ bits-kept t = go (ltb (natAbs t) (2 ^ 511))
     go false = refl
 
 bits-plus : (ws : List ℕ) (t : ℤ) → wide ws ≢ 2 ^ 511 → bitsOf 512 (plus 512 (fromWords 512 ws) (total t)) ≡ keptAs (2 ^ 511) (reading (2 ^ 511) (wide ws) +ℤ t)
-unfolding plus fromWords stateOf
-bits-plus ws t n = rw (ne-eqb (wide ws) (2 ^ 511) n) (bits-kept (reading (2 ^ 511) (wide ws) +ℤ t))
+unfolding plus
+bits-plus ws t n = rw (read-real ws n) (bits-kept (reading (2 ^ 511) (wide ws) +ℤ t))
 
 -- what the complement of an operand lacks is carried in
 carried-in : (s : Bool) (H n m : ℕ) → m < H → n + turned s (2 * H - 1) m + boolByte s ≡ n + wrap H s m
@@ -81,6 +89,17 @@ module _ (s : Bool) (ws : List ℕ) (m z : ℕ) (ne : wide ws ≢ 2 ^ 511) (shor
   stepped-bits =
       let wrapped : z ≡ (wide ws + wrap (2 ^ 511) s m) % 2 ^ 512 = sum ∙ ap (λ (n : ℕ). n % 2 ^ 512) (carried-in s (2 ^ 511) (wide ws) m small) in
       rw wrapped (sym (bits-plus ws (withSign s m) ne ∙ steps (2 ^ 511) (wide ws) m ne short small s))
+
+-- ---- from 0
+
+pub from-zero : (n s : Bool) (m : ℕ) → m < 2 ^ 511 → plus 512 (total (pos 0)) (cond n notReal (total (withSign s m))) ≡ cond n notReal (total (withSign s m))
+unfolding plus
+from-zero true s m h = refl
+from-zero false s m h = rw (+ℤ-idl (withSign s m), size-of s m, lt-ltb m (2 ^ 511) h)
+
+pub read-zero : fromWords 512 (0 ∷ 0 ∷ 0 ∷ 0 ∷ 0 ∷ 0 ∷ 0 ∷ 0 ∷ []) ≡ total (pos 0)
+unfolding number
+read-zero = read-clear (0 ∷ 0 ∷ 0 ∷ 0 ∷ 0 ∷ 0 ∷ 0 ∷ 0 ∷ []) refl
 
 -- ---- the direction
 

@@ -2,3 +2,4 @@
 pub mod Words
 pub mod Operand
 pub mod Step
+pub mod Leading

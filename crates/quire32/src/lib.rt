@@ -2,3 +2,4 @@
 mod operands; // operands.rt: what a step brings
 mod words; // words.rt: 512 bits in eight words, by value
 pub mod ops; // ops.rt: the steps
+pub mod convert; // convert.rt: between words and posits

@@ -45,7 +45,7 @@ fn directed(x: Operand, plus: bool) -> Operand
     }
 }
 
-fn step(q: [u64; 8], x: Operand) -> [u64; 8]
+pub(crate) fn step(q: [u64; 8], x: Operand) -> [u64; 8]
     requires { ⌜ x .shift < 512 ⌝ }
     ensures { λ r. ⌜ r ≡ words 512 (moved true (fromWords 512 q) (brought x)) ⌝ }
 {

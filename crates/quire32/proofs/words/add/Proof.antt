@@ -1,7 +1,7 @@
 -- `add` meets its contract: each turn adds one column (`sum-grows`), and what is carried out of word 0 is dropped.
 use mathlib.Core.Path.{_≡_, refl}
 use Prim.Native.Nat.{ℕ, _+_, _≤_, _^_}
-use native.Mathlib.Nat.{zero-add}
+use native.Mathlib.Nat.{le-of-eq, zero-add}
 use native.Mathlib.Omega.{arith}
 use borrow.Author.Needs.{needs}
 use lib.ListN.{length, getD, drop}
@@ -25,7 +25,7 @@ loop-holds : tie.Need-loop-holds Inv-loop μ-loop
 loop-holds c =
     let ha : length (c .args .t1) ≡ 8 = search needs in
     let hb : length (c .args .t2) ≡ 8 = search needs in
-    (rw (number-none (2 ^ 64) 8 (c .args .t1) ha, number-none (2 ^ 64) 8 (c .args .t2) hb, zero-add (boolByte (c .args .carry))) (start (2 ^ 64) 8 (boolByte (c .args .carry)) _ refl), digit-le (c .args .carry))
+    (rw (number-none (2 ^ 64) 8 (c .args .t1) (le-of-eq ha), number-none (2 ^ 64) 8 (c .args .t2) (le-of-eq hb), zero-add (boolByte (c .args .carry))) (start (2 ^ 64) 8 (boolByte (c .args .carry)) _ refl), digit-le (c .args .carry))
 
 sub-i : tie.Need-sub-i Inv-loop μ-loop
 sub-i c = search needs

@@ -3,6 +3,7 @@ use mathlib.Core.Path.{_≡_, refl, ap, _∙_}
 use mathlib.Core.List.{List}
 use mathlib.Core.Logic.{_↔_}
 use Prim.Native.Nat.{ℕ, _≤_, _<_, _^_}
+use native.Mathlib.Nat.{le-of-eq}
 use native.Mathlib.Decide.{decLt}
 use native.Mathlib.Omega.{arith}
 use borrow.Author.Needs.{needs}
@@ -33,7 +34,7 @@ all-seen first i a e h l k = go (decLt i 8)
 loop-holds : tie.Need-loop-holds Inv-loop μ-loop
 loop-holds c =
     let ha : length (c .args .t1) ≡ 8 = search needs in
-    (search needs, (λ l. absurd (omega arith)), ((λ e. number-none (2 ^ 64) 8 (c .args .t1) ha), (λ e. refl)))
+    (search needs, (λ l. absurd (omega arith)), ((λ e. number-none (2 ^ 64) 8 (c .args .t1) (le-of-eq ha)), (λ e. refl)))
 
 sub-i : tie.Need-sub-i Inv-loop μ-loop
 sub-i c = search needs

@@ -1,7 +1,7 @@
 -- `complement` meets its contract: nothing is ever carried, and each turn puts the largest digit less one digit in front (`complement-grows`).
 use mathlib.Core.Path.{_≡_, refl, _∙_}
 use Prim.Native.Nat.{ℕ, _+_, _-_, _%_, _^_, _<_}
-use native.Mathlib.Nat.{mod-eq-of-lt}
+use native.Mathlib.Nat.{le-of-eq, mod-eq-of-lt}
 use native.Mathlib.Omega.{arith}
 use borrow.Author.Needs.{needs}
 use lib.Dec.{lit<}
@@ -25,7 +25,7 @@ abbrev μ-loop : tie.MeasureT-loop
 loop-holds : tie.Need-loop-holds Inv-loop μ-loop
 loop-holds c =
     let ha : length (c .args .t1) ≡ 8 = search needs in
-    rw (number-none (2 ^ 64) 8 (c .args .t1) ha) (start (2 ^ 64) 8 0 _ refl)
+    rw (number-none (2 ^ 64) 8 (c .args .t1) (le-of-eq ha)) (start (2 ^ 64) 8 0 _ refl)
 
 sub-i : tie.Need-sub-i Inv-loop μ-loop
 sub-i c = search needs

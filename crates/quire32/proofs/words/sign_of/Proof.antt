@@ -1,16 +1,15 @@
 -- `sign_of` meets its contract: the number reaches 2 ^ 511 exactly where its first word reaches 2 ^ 63.
-use mathlib.Core.Path.{_≡_, sym, ap, _∙_}
-use Prim.Native.Nat.{ℕ, _+_, _*_, _/_, _^_, _<_}
+use mathlib.Core.Path.{_≡_, ap, _∙_}
+use Prim.Native.Nat.{ℕ, _/_, _^_, _<_}
 use native.Mathlib.Decide.{decLt}
 use native.Mathlib.Omega.{arith}
 use borrow.Author.Needs.{needs}
 use borrow.Author.Tests.{le-leb, lt-leb}
 use mir.Val.{boolByte}
 use lib.Dec.{leb, lit<}
-use lib.ListN.{getD, drop}
-use Rattle.quire32.specs.Words.{wide}
+use lib.ListN.{getD}
 use Rattle.quire32.proofs.Places.{below-at, words-typed}
-use Rattle.quire32.proofs.First.{first-digit, reaches}
+use Rattle.quire32.proofs.First.{sign-seen}
 use Rattle.quire32.proofs.words.sign_of.Statement.{statement}
 use Rattle.quire32.proofs.words.sign_of.Tie as tie
 
@@ -28,9 +27,7 @@ returns : tie.Need-returns
 returns c =
     let a = c .args .t1 in
     let w = words-typed 8 a (c .good .0) in
-    let f = first-digit (2 ^ 64) 7 a (w .0) (w .1) in
-    top-bit (getD a 0 0) (below-at (2 ^ 64) a 0 (w .1) (rw (w .0) (lit< tt)))
-    ∙ ap boolByte (reaches ((2 ^ 64) ^ 7) (getD a 0 0) (wide (drop 1 a)) (f .1) (2 ^ 63) ∙ ap (leb (2 ^ 511)) (sym (f .0)))
+    top-bit (getD a 0 0) (below-at (2 ^ 64) a 0 (w .1) (rw (w .0) (lit< tt))) ∙ ap boolByte (sign-seen a (w .0) (w .1))
 
 pub sign-of-spec : {M : Type 1} → statement M
 sign-of-spec = tie.close (tie.spec array-read-result returns)
