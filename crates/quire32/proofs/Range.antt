@@ -12,7 +12,7 @@ use lib.Dec.{ltb, leb}
 use lib.IntN.{ℤ, pos, negsuc, natAbs, negℤ, _+ℤ_, +ℤ-comm}
 use Rattle.posit.specs.Digits.{reading, complement}
 use Rattle.posit.proofs.Complement.{reading-low, reading-high}
-use Rattle.posit.proofs.Signs.{withSign, sum-same, sum-unlike}
+use Rattle.posit.proofs.Signs.{withSign, negated-sign, sum-same, sum-unlike}
 use Rattle.quire32.specs.Operand.{escaped}
 
 -- what a number is in two's complement, less than the double of H being what it is counted in
@@ -41,10 +41,13 @@ module _ (H : ℕ) where
   unfolding complement
   kept-positive k h = rw (lt-ltb k H h)
 
-  kept-negative : (k : ℕ) → k < H → keptAs H (withSign true k) ≡ (2 * H - k) % (2 * H)
+  complement-negative : (k : ℕ) → k < H → complement H (withSign true k) ≡ (2 * H - k) % (2 * H)
   unfolding complement
-  kept-negative zero h = rw (lt-ltb 0 H h, sub-zero, mod-self)
-  kept-negative (suc k) h = rw (lt-ltb (suc k) H h, mod-eq-of-lt {n = 2 * H - suc k} {m = 2 * H} (omega arith))
+  complement-negative zero h = rw (sub-zero, mod-self)
+  complement-negative (suc k) h = sym (mod-eq-of-lt {n = 2 * H - suc k} {m = 2 * H} (omega arith))
+
+  kept-negative : (k : ℕ) → k < H → keptAs H (withSign true k) ≡ (2 * H - k) % (2 * H)
+  kept-negative k h = rw (size-of true k, lt-ltb k H h) (complement-negative k h)
 
   -- a number from H on, by its sign and size
   reading-negative : (n : ℕ) → H ≤ n → n < 2 * H → reading H n ≡ withSign true (2 * H - n)
@@ -72,6 +75,15 @@ module _ (H : ℕ) where
       go : Dec (n < H) → withSign (leb H n) (natAbs (reading H n)) ≡ reading H n
       go (yes h) = rw (reading-low H n h, lt-leb H n h)
       go (no h) = rw (reading-negative n (omega arith) l, le-leb H n (omega arith), size-of true (2 * H - n))
+
+  -- the negative of a number, wrapped
+  pub negated-as : (n : ℕ) → n ≢ H → n < 2 * H → complement H (negℤ (reading H n)) ≡ (2 * H - n) % (2 * H)
+  unfolding complement
+  negated-as n ne l = go (decLt n H)
+    where
+      go : Dec (n < H) → complement H (negℤ (reading H n)) ≡ (2 * H - n) % (2 * H)
+      go (yes h) = rw (reading-low H n h) (complement-negative n h)
+      go (no h) = rw (reading-negative n (omega arith) l, negated-sign true (2 * H - n)) (sym (mod-eq-of-lt (omega arith)))
 
   module _ (n m : ℕ) (ne : n ≢ H) (ln : n < 2 * H) (lm : m < H) where
     abbrev Steps : Bool → Type 0

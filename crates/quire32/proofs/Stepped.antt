@@ -3,23 +3,26 @@ use mathlib.Core.Path.{_≡_, refl, sym, ap, ap₂, _∙_}
 use mathlib.Core.Logic.{_≢_}
 use mathlib.Core.Bool.{Bool, true, false, cond}
 use mathlib.Core.List.{List, [], _∷_}
-use Prim.Native.Nat.{ℕ, _+_, _-_, _*_, _/_, _%_, _^_, _≤_, _<_}
+use Prim.Native.Nat.{ℕ, suc, _+_, _-_, _*_, _/_, _%_, _^_, _≤_, _<_}
 use native.Mathlib.Nat.{add-zero, mul-comm, lt-of-lt-of-le, mul-le-mul-left, mul-lt-mul-of-pos-right, div-lt-iff-lt-mul}
+use native.Mathlib.Decide.{decLt, ℕ-discrete}
 use native.Mathlib.Omega.{arith}
-use borrow.Author.Tests.{eq-eqb, ne-eqb, lt-ltb}
+use borrow.Author.Tests.{eq-eqb, ne-eqb, lt-ltb, le-ltb}
 use mir.Val.{boolByte}
 use lib.Dec.{eqb, ltb, leb, lit<}
 use lib.IntN.{ℤ, pos, natAbs, _+ℤ_, +ℤ-idl}
 use lib.ListN.{length}
 use lib.Pow.{pow-pos, pow-mono}
 use Rattle.posit.specs.Digits.{number, digits, Below, reading, complement}
-use Rattle.posit.specs.Accumulator.{State, notReal, total, kept, plus, minus, bitsOf, stateOf, words, fromWords}
+use Rattle.posit.specs.Accumulator.{State, notReal, total, isNotReal, isClear, kept, plus, negated, minus, ofPosit, toPosit, partsOf, bitsOf, stateOf, words, fromWords}
 use Rattle.posit.proofs.Digits.{digits-number}
+use Rattle.posit.proofs.Complement.{reading-low, reading-high}
 use Rattle.posit.proofs.Signs.{withSign}
+use Rattle.posit.proofs.State.{Held, words-read}
 use Rattle.quire32.specs.Words.{wide}
 use Rattle.quire32.specs.Operand.{turned, escaped, directedBy}
 use Rattle.quire32.specs.Step.{moved}
-use Rattle.quire32.proofs.Range.{wrap, keptAs, size-of, steps}
+use Rattle.quire32.proofs.Range.{wrap, keptAs, size-of, negated-as, steps}
 
 -- ---- NaR
 
@@ -57,6 +60,32 @@ pub spelt : (q : State) (ws : List ℕ) → length ws ≡ 8 → Below (2 ^ 64) w
 unfolding words
 spelt q ws e b n = sym (digits-number (2 ^ 64) (pow-pos 64) ws b) ∙ ap₂ (digits (2 ^ 64)) e n
 
+-- ---- the two questions
+
+pub nar-seen : (ws : List ℕ) → eqb (wide ws) (2 ^ 511) ≡ isNotReal (fromWords 512 ws)
+unfolding fromWords stateOf isNotReal
+nar-seen ws = go (eqb (wide ws) (2 ^ 511))
+  where
+    go : (b : Bool) → b ≡ isNotReal (cond b notReal (total (reading (2 ^ 511) (wide ws))))
+    go true = refl
+    go false = refl
+
+clear-at : (H n : ℕ) → n < 2 * H → eqb n 0 ≡ isClear (total (reading H n))
+unfolding isClear
+clear-at H n l = go (decLt n H)
+  where
+    go : Dec (n < H) → eqb n 0 ≡ isClear (total (reading H n))
+    go (yes h) = rw (reading-low H n h)
+    go (no h) = rw (reading-high H n (omega arith)) (ne-eqb n 0 (λ z. omega arith))
+
+pub clear-seen : (ws : List ℕ) → wide ws < 2 ^ 512 → eqb (wide ws) 0 ≡ isClear (fromWords 512 ws)
+unfolding isClear
+clear-seen ws l = go (ℕ-discrete (wide ws) (2 ^ 511))
+  where
+    go : Dec (wide ws ≡ 2 ^ 511) → eqb (wide ws) 0 ≡ isClear (fromWords 512 ws)
+    go (yes e) = rw (read-nar ws e, e)
+    go (no n) = rw (read-real ws n) (clear-at (2 ^ 511) (wide ws) l)
+
 -- ---- an operand that is added
 
 bits-kept : (t : ℤ) → bitsOf 512 (kept 512 t) ≡ keptAs (2 ^ 511) t
@@ -89,6 +118,45 @@ module _ (s : Bool) (ws : List ℕ) (m z : ℕ) (ne : wide ws ≢ 2 ^ 511) (shor
   stepped-bits =
       let wrapped : z ≡ (wide ws + wrap (2 ^ 511) s m) % 2 ^ 512 = sum ∙ ap (λ (n : ℕ). n % 2 ^ 512) (carried-in s (2 ^ 511) (wide ws) m small) in
       rw wrapped (sym (bits-plus ws (withSign s m) ne ∙ steps (2 ^ 511) (wide ws) m ne short small s))
+
+-- ---- the negative
+
+pub negated-bits : (ws : List ℕ) → wide ws < 2 ^ 512 → (2 ^ 512 - wide ws) % 2 ^ 512 ≡ bitsOf 512 (negated (fromWords 512 ws))
+unfolding negated bitsOf
+negated-bits ws l = go (ℕ-discrete (wide ws) (2 ^ 511))
+  where
+    go : Dec (wide ws ≡ 2 ^ 511) → (2 ^ 512 - wide ws) % 2 ^ 512 ≡ bitsOf 512 (negated (fromWords 512 ws))
+    go (yes e) = rw (read-nar ws e, e)
+    go (no n) = rw (read-real ws n) (sym (negated-as (2 ^ 511) (wide ws) n l))
+
+-- ---- what a step leads to is written and read back unchanged
+
+kept-held : (bits : ℕ) (t : ℤ) → Held bits (kept bits t)
+kept-held bits t = go (decLt (natAbs t) (2 ^ (bits - 1)))
+  where
+    go : Dec (natAbs t < 2 ^ (bits - 1)) → Held bits (kept bits t)
+    go (yes h) = rw (lt-ltb (natAbs t) (2 ^ (bits - 1)) h) h
+    go (no h) = rw (le-ltb (natAbs t) (2 ^ (bits - 1)) (omega arith)) tt
+
+plus-held : (q x : State) → Held 512 (plus 512 q x)
+unfolding plus
+plus-held notReal x = tt
+plus-held (total t) notReal = tt
+plus-held (total t) (total u) = kept-held 512 (t +ℤ u)
+
+pub plus-read : (q x : State) → fromWords 512 (words 512 (plus 512 q x)) ≡ plus 512 q x
+plus-read q x = words-read 512 (lit< tt) refl (plus 512 q x) (plus-held q x)
+
+-- ---- parts
+
+pub last-part : (f : ℕ) (q : State) → f ≡ toPosit 2 31 q → f ∷ [] ≡ partsOf 2 31 512 1 q
+unfolding partsOf
+last-part f q e = rw e
+
+-- one part more: f is the rounding, and ws what it leaves
+pub parts-next : (n f : ℕ) (q : State) (ws : List ℕ) → f ≡ toPosit 2 31 q → ws ≡ words 512 (minus 512 q (ofPosit 2 31 f)) → f ∷ partsOf 2 31 512 n (fromWords 512 ws) ≡ partsOf 2 31 512 (suc n) q
+unfolding partsOf minus
+parts-next n f q ws e l = rw (l, plus-read, e)
 
 -- ---- from 0
 

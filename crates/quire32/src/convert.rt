@@ -1,21 +1,23 @@
 // Between words and posits: the state that a posit is, and the rounding of a total.
 ghost use mathlib.Core.Path.{_≡_};
+ghost use mathlib.Core.List.{[], _∷_};
 ghost use Prim.Native.Nat.{_<_, _^_};
 ghost use lib.Dec.{leb};
 ghost use lib.IntN.{natAbs};
 ghost use lib.ListN.{drop, getD};
 ghost use Rattle.posit.specs.Digits.{reading};
 ghost use Rattle.posit.specs.Rounding.{rounded};
-ghost use Rattle.posit.specs.Accumulator.{ofPosit, toPosit, words, fromWords};
+ghost use Rattle.posit.specs.Accumulator.{ofPosit, toPosit, partsOf, words, fromWords};
 ghost use Rattle.posit.proofs.Signs.{withSign};
 ghost use Rattle.quire32.specs.Words.{wide};
 ghost use Rattle.quire32.specs.Leading.{Leads};
 use super::operands::posit_of;
 use super::ops::NAR_WORD;
+use super::ops::fdp_one;
 use super::ops::step;
 use super::words::any_from;
 use super::words::is_alone;
-use super::words::neg;
+use super::words::negative_of;
 use p32e2::P32E2;
 use p32e2::pack::pack;
 
@@ -38,12 +40,46 @@ pub fn to_posit(q: [u64; 8]) -> P32E2
     round_size(negative, size_of(q, negative))
 }
 
+// A total in parts: each the rounding of what the parts before it leave.
+pub struct TwoPosits {
+    pub first: P32E2,
+    pub second: P32E2,
+}
+
+pub struct ThreePosits {
+    pub first: P32E2,
+    pub second: P32E2,
+    pub third: P32E2,
+}
+
+pub fn two_posits(q: [u64; 8]) -> TwoPosits
+    ensures { λ r. ⌜ r .first .0 ∷ r .second .0 ∷ [] ≡ partsOf 2 31 512 2 (fromWords 512 q) ⌝ }
+{
+    let first = to_posit(q);
+    let second = to_posit(fdp_one(q, first, false));
+    TwoPosits { first, second }
+}
+
+pub fn three_posits(q: [u64; 8]) -> ThreePosits
+    ensures { λ r. ⌜ r .first .0 ∷ r .second .0 ∷ r .third .0 ∷ [] ≡ partsOf 2 31 512 3 (fromWords 512 q) ⌝ }
+{
+    let first = to_posit(q);
+    let rest = two_posits(fdp_one(q, first, false));
+    let second = rest.first;
+    let third = rest.second;
+    ThreePosits {
+        first,
+        second,
+        third,
+    }
+}
+
 // The number without its sign.
 fn size_of(q: [u64; 8], negative: bool) -> [u64; 8]
     requires { ⌜ negative ≡ leb (2 ^ 511) (wide q) ⌝ }
     ensures { λ r. ⌜ wide r ≡ natAbs (reading (2 ^ 511) (wide q)) ⌝ }
 {
-    if negative { neg(q) } else { q }
+    if negative { negative_of(q) } else { q }
 }
 
 // The number w, which is not 0, rounded, with its sign.

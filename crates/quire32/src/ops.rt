@@ -3,7 +3,7 @@ ghost use mathlib.Core.Path.{_≡_};
 ghost use mathlib.Core.Bool.{true, cond};
 ghost use Prim.Native.Nat.{_-_, _^_, _<_};
 ghost use lib.Dec.{leb};
-ghost use Rattle.posit.specs.Accumulator.{ofPosit, ofProduct, words, fromWords};
+ghost use Rattle.posit.specs.Accumulator.{isNotReal, isClear, ofPosit, ofProduct, negated, words, fromWords};
 ghost use Rattle.quire32.specs.Words.{wide};
 ghost use Rattle.quire32.specs.Operand.{amount, brought, directedBy, turned, escaped};
 ghost use Rattle.quire32.specs.Step.{moved};
@@ -12,6 +12,7 @@ use super::operands::posit_of;
 use super::operands::product_of;
 use super::words::add;
 use super::words::is_alone;
+use super::words::negative_of;
 use super::words::sign_of;
 use p32e2::P32E2;
 
@@ -30,6 +31,25 @@ pub fn fdp_one(q: [u64; 8], a: P32E2, plus: bool) -> [u64; 8]
     ensures { λ r. ⌜ r ≡ words 512 (moved plus (fromWords 512 q) (ofPosit 2 31 (a .0))) ⌝ }
 {
     step(q, directed(posit_of(a), plus))
+}
+
+// The negative of the whole number. That of NaR's pattern is that pattern.
+pub fn neg(q: [u64; 8]) -> [u64; 8]
+    ensures { λ r. ⌜ r ≡ words 512 (negated (fromWords 512 q)) ⌝ }
+{
+    negative_of(q)
+}
+
+pub fn is_zero(q: [u64; 8]) -> bool
+    ensures { λ r. ⌜ r ≡ isClear (fromWords 512 q) ⌝ }
+{
+    is_alone(q, 0)
+}
+
+pub fn is_nar(q: [u64; 8]) -> bool
+    ensures { λ r. ⌜ r ≡ isNotReal (fromWords 512 q) ⌝ }
+{
+    is_alone(q, NAR_WORD)
 }
 
 // To take an operand is to add it with the other sign.

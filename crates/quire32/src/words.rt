@@ -62,7 +62,7 @@ pub(crate) fn sub(a: [u64; 8], b: [u64; 8]) -> [u64; 8]
     add(a, complement(b), true)
 }
 
-pub(crate) fn neg(a: [u64; 8]) -> [u64; 8]
+pub(crate) fn negative_of(a: [u64; 8]) -> [u64; 8]
     ensures { λ r. ⌜ wide r ≡ (2 ^ 512 - wide a) % 2 ^ 512 ⌝ }
 {
     sub([0; 8], a)

@@ -10,14 +10,14 @@ use Rattle.quire32.proofs.Range.{size-low, size-high}
 use Rattle.quire32.proofs.convert.size_of.Statement.{statement}
 use Rattle.quire32.proofs.convert.size_of.Tie as tie
 
-neg-requires : tie.Need-neg-requires
-neg-requires c κs = search needs
+negative-of-requires : tie.Need-negative-of-requires
+negative-of-requires c κs = search needs
 
 returns : tie.Need-returns
 returns c =
     let k = c .before .before in
     let q = k .args .q in
-    c .neg .ensures ∙ sym (size-high (2 ^ 511) (wide q) (lit< tt) (leb-true (2 ^ 511) (wide q) (sym (k .pre) ∙ c .before .if1 .taken)) (wide-typed q (k .good .0)))
+    c .negative-of .ensures ∙ sym (size-high (2 ^ 511) (wide q) (lit< tt) (leb-true (2 ^ 511) (wide q) (sym (k .pre) ∙ c .before .if1 .taken)) (wide-typed q (k .good .0)))
 
 returns-2 : tie.Need-returns-2
 returns-2 c =
@@ -26,4 +26,4 @@ returns-2 c =
     sym (size-low (2 ^ 511) (wide q) (leb-false (2 ^ 511) (wide q) (sym (k .pre) ∙ c .if1 .left)))
 
 pub size-of-spec : {M : Type 1} → statement M
-size-of-spec = tie.close (tie.spec neg-requires returns returns-2)
+size-of-spec = tie.close (tie.spec negative-of-requires returns returns-2)
