@@ -3,3 +3,4 @@ pub mod Words
 pub mod Operand
 pub mod Step
 pub mod Leading
+pub mod Constants

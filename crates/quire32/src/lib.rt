@@ -1,5 +1,68 @@
-// The accumulator Q32E2: sums of posits of 32 bits and of their exact products, without rounding.
+// The accumulator Q32E2: sums of posits of 32 bits and of their exact products, without rounding. It counts units of 2^-240 in 512 bits.
 mod operands; // operands.rt: what a step brings
 mod words; // words.rt: 512 bits in eight words, by value
-pub mod ops; // ops.rt: the steps
 pub mod convert; // convert.rt: between words and posits
+pub mod ops; // ops.rt: the steps
+
+ghost use mathlib.Core.Path.{_≡_};
+ghost use mathlib.Core.List.{[], _∷_};
+ghost use Rattle.posit.specs.Accumulator.{clear, ofPosit, partsOf, words, fromWords};
+ghost use Rattle.quire32.specs.Constants.{constants};
+use convert::ThreePosits;
+use convert::TwoPosits;
+use convert::three_posits;
+use convert::two_posits;
+use p32e2::P32E2;
+
+// The eight words, word 0 most significant: one number in two's complement. The one pattern of -2^511 is NaR.
+pub struct Q32E2(pub [u64; 8]);
+
+impl Q32E2 {
+    pub const ZERO: Q32E2 = Q32E2([0, 0, 0, 0, 0, 0, 0, 0]);
+
+    pub const ONE: Q32E2 = Q32E2([0, 0, 0, 0, 0x0001_0000_0000_0000, 0, 0, 0]);
+
+    pub const NAR: Q32E2 = Q32E2([0x8000_0000_0000_0000, 0, 0, 0, 0, 0, 0, 0]);
+
+    pub fn init() -> Q32E2
+        ensures { λ r. ⌜ r .0 ≡ words 512 clear ⌝ }
+    {
+        Q32E2::ZERO
+    }
+
+    pub fn from_bits(v: [u64; 8]) -> Q32E2
+        ensures { λ r. ⌜ r .0 ≡ v ⌝ }
+    {
+        Q32E2(v)
+    }
+
+    pub fn from_posit(p: P32E2) -> Q32E2
+        ensures { λ r. ⌜ r .0 ≡ words 512 (ofPosit 2 31 (p .0)) ⌝ }
+    {
+        Q32E2(convert::from_posit(p))
+    }
+
+    pub fn into_two_posits(self) -> TwoPosits
+        ensures { λ r. ⌜ r .first .0 ∷ r .second .0 ∷ [] ≡ partsOf 2 31 512 2 (fromWords 512 (self .0)) ⌝ }
+    {
+        let words = self.0;
+        two_posits(words)
+    }
+
+    pub fn into_three_posits(self) -> ThreePosits
+        ensures { λ r. ⌜ r .first .0 ∷ r .second .0 ∷ r .third .0 ∷ [] ≡ partsOf 2 31 512 3 (fromWords 512 (self .0)) ⌝ }
+    {
+        let words = self.0;
+        three_posits(words)
+    }
+}
+
+// The constants' words, in the order of their declarations. Nothing calls this: its contract ties the constants to the definitions.
+fn words_of_constants() -> [[u64; 8]; 3]
+    ensures { λ r. ⌜ r ≡ constants ⌝ }
+{
+    let zero = Q32E2::ZERO.0;
+    let one = Q32E2::ONE.0;
+    let nar = Q32E2::NAR.0;
+    [zero, one, nar]
+}
