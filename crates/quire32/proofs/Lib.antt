@@ -8,3 +8,4 @@ pub mod Brought
 pub mod Placed
 pub mod Stepped
 pub mod Leads
+pub mod Solids

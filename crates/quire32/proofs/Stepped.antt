@@ -14,7 +14,7 @@ use lib.IntN.{ℤ, pos, natAbs, _+ℤ_, +ℤ-idl}
 use lib.ListN.{length}
 use lib.Pow.{pow-pos, pow-mono}
 use Rattle.posit.specs.Digits.{number, digits, Below, reading, complement}
-use Rattle.posit.specs.Accumulator.{State, notReal, total, isNotReal, isClear, kept, plus, negated, minus, ofPosit, toPosit, partsOf, bitsOf, stateOf, words, fromWords}
+use Rattle.posit.specs.Accumulator.{State, notReal, total, clear, isNotReal, isClear, kept, plus, negated, minus, ofPosit, toPosit, partsOf, bitsOf, stateOf, words, fromWords}
 use Rattle.posit.proofs.Digits.{digits-number}
 use Rattle.posit.proofs.Complement.{reading-low, reading-high}
 use Rattle.posit.proofs.Signs.{withSign}
@@ -24,7 +24,7 @@ use Rattle.quire32.specs.Operand.{turned, escaped, directedBy}
 use Rattle.quire32.specs.Step.{moved}
 use Rattle.quire32.proofs.Range.{wrap, keptAs, size-of, negated-as, steps}
 
--- ---- NaR
+-- ---- the words of NaR
 
 abbrev pub narWords : List ℕ
 narWords = 2 ^ 63 ∷ 0 ∷ 0 ∷ 0 ∷ 0 ∷ 0 ∷ 0 ∷ 0 ∷ []
@@ -32,6 +32,17 @@ narWords = 2 ^ 63 ∷ 0 ∷ 0 ∷ 0 ∷ 0 ∷ 0 ∷ 0 ∷ 0 ∷ []
 pub nar-spelt : narWords ≡ words 512 notReal
 unfolding words bitsOf digits
 nar-spelt = refl
+
+-- ---- the clear state
+
+abbrev zeroWords : List ℕ
+zeroWords = 0 ∷ 0 ∷ 0 ∷ 0 ∷ 0 ∷ 0 ∷ 0 ∷ 0 ∷ []
+
+pub clear-spelt : zeroWords ≡ words 512 clear
+unfolding words bitsOf digits complement
+clear-spelt = refl
+
+-- ---- no step leads out of NaR
 
 pub plus-nar : (q : State) → plus 512 q notReal ≡ notReal
 unfolding plus
@@ -165,9 +176,9 @@ unfolding plus
 from-zero true s m h = refl
 from-zero false s m h = rw (+ℤ-idl (withSign s m), size-of s m, lt-ltb m (2 ^ 511) h)
 
-pub read-zero : fromWords 512 (0 ∷ 0 ∷ 0 ∷ 0 ∷ 0 ∷ 0 ∷ 0 ∷ 0 ∷ []) ≡ total (pos 0)
+pub read-zero : fromWords 512 zeroWords ≡ total (pos 0)
 unfolding number
-read-zero = read-clear (0 ∷ 0 ∷ 0 ∷ 0 ∷ 0 ∷ 0 ∷ 0 ∷ 0 ∷ []) refl
+read-zero = read-clear zeroWords refl
 
 -- ---- the direction
 

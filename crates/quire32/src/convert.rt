@@ -13,8 +13,8 @@ ghost use Rattle.quire32.specs.Words.{wide};
 ghost use Rattle.quire32.specs.Leading.{Leads};
 use super::operands::posit_of;
 use super::ops::NAR_WORD;
-use super::ops::fdp_one;
 use super::ops::step;
+use super::ops::sub_posit;
 use super::words::any_from;
 use super::words::is_alone;
 use super::words::negative_of;
@@ -56,7 +56,7 @@ pub fn two_posits(q: [u64; 8]) -> TwoPosits
     ensures { λ r. ⌜ r .first .0 ∷ r .second .0 ∷ [] ≡ partsOf 2 31 512 2 (fromWords 512 q) ⌝ }
 {
     let first = to_posit(q);
-    let second = to_posit(fdp_one(q, first, false));
+    let second = to_posit(sub_posit(q, first));
     TwoPosits { first, second }
 }
 
@@ -64,7 +64,7 @@ pub fn three_posits(q: [u64; 8]) -> ThreePosits
     ensures { λ r. ⌜ r .first .0 ∷ r .second .0 ∷ r .third .0 ∷ [] ≡ partsOf 2 31 512 3 (fromWords 512 q) ⌝ }
 {
     let first = to_posit(q);
-    let rest = two_posits(fdp_one(q, first, false));
+    let rest = two_posits(sub_posit(q, first));
     let second = rest.first;
     let third = rest.second;
     ThreePosits {

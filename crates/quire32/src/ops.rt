@@ -1,9 +1,9 @@
 // The steps, by value: an operand is placed, added, and the new total judged by the range.
 ghost use mathlib.Core.Path.{_≡_};
-ghost use mathlib.Core.Bool.{true, cond};
+ghost use mathlib.Core.Bool.{cond};
 ghost use Prim.Native.Nat.{_-_, _^_, _<_};
 ghost use lib.Dec.{leb};
-ghost use Rattle.posit.specs.Accumulator.{isNotReal, isClear, ofPosit, ofProduct, negated, words, fromWords};
+ghost use Rattle.posit.specs.Accumulator.{clear, isNotReal, isClear, ofPosit, ofProduct, plus, minus, negated, words, fromWords};
 ghost use Rattle.quire32.specs.Words.{wide};
 ghost use Rattle.quire32.specs.Operand.{amount, brought, directedBy, turned, escaped};
 ghost use Rattle.quire32.specs.Step.{moved};
@@ -19,18 +19,32 @@ use p32e2::P32E2;
 // Word 0 of NaR; its other words are 0.
 pub(crate) const NAR_WORD: u64 = 0x8000_0000_0000_0000;
 
-// The exact product of a and b added, or taken where `plus` is false.
-pub fn fdp(q: [u64; 8], a: P32E2, b: P32E2, plus: bool) -> [u64; 8]
-    ensures { λ r. ⌜ r ≡ words 512 (moved plus (fromWords 512 q) (ofProduct 2 31 (a .0) (b .0))) ⌝ }
+// The exact product of a and b, added.
+pub fn add_product(q: [u64; 8], a: P32E2, b: P32E2) -> [u64; 8]
+    ensures { λ r. ⌜ r ≡ words 512 (plus 512 (fromWords 512 q) (ofProduct 2 31 (a .0) (b .0))) ⌝ }
 {
-    step(q, directed(product_of(a, b), plus))
+    fdp(q, a, b, true)
 }
 
-// The posit a added, or taken where `plus` is false.
-pub fn fdp_one(q: [u64; 8], a: P32E2, plus: bool) -> [u64; 8]
-    ensures { λ r. ⌜ r ≡ words 512 (moved plus (fromWords 512 q) (ofPosit 2 31 (a .0))) ⌝ }
+// The exact product of a and b, taken.
+pub fn sub_product(q: [u64; 8], a: P32E2, b: P32E2) -> [u64; 8]
+    ensures { λ r. ⌜ r ≡ words 512 (minus 512 (fromWords 512 q) (ofProduct 2 31 (a .0) (b .0))) ⌝ }
 {
-    step(q, directed(posit_of(a), plus))
+    fdp(q, a, b, false)
+}
+
+// One posit, added.
+pub fn add_posit(q: [u64; 8], p: P32E2) -> [u64; 8]
+    ensures { λ r. ⌜ r ≡ words 512 (plus 512 (fromWords 512 q) (ofPosit 2 31 (p .0))) ⌝ }
+{
+    fdp_one(q, p, true)
+}
+
+// One posit, taken.
+pub fn sub_posit(q: [u64; 8], p: P32E2) -> [u64; 8]
+    ensures { λ r. ⌜ r ≡ words 512 (minus 512 (fromWords 512 q) (ofPosit 2 31 (p .0))) ⌝ }
+{
+    fdp_one(q, p, false)
 }
 
 // The negative of the whole number. That of NaR's pattern is that pattern.
@@ -52,14 +66,35 @@ pub fn is_nar(q: [u64; 8]) -> bool
     is_alone(q, NAR_WORD)
 }
 
+// The state after `clear`.
+pub fn cleared() -> [u64; 8]
+    ensures { λ r. ⌜ r ≡ words 512 clear ⌝ }
+{
+    [0; 8]
+}
+
+// A product in one of the two directions: added, or taken where `added` is false.
+fn fdp(q: [u64; 8], a: P32E2, b: P32E2, added: bool) -> [u64; 8]
+    ensures { λ r. ⌜ r ≡ words 512 (moved added (fromWords 512 q) (ofProduct 2 31 (a .0) (b .0))) ⌝ }
+{
+    step(q, directed(product_of(a, b), added))
+}
+
+// The same for one posit.
+fn fdp_one(q: [u64; 8], p: P32E2, added: bool) -> [u64; 8]
+    ensures { λ r. ⌜ r ≡ words 512 (moved added (fromWords 512 q) (ofPosit 2 31 (p .0))) ⌝ }
+{
+    step(q, directed(posit_of(p), added))
+}
+
 // To take an operand is to add it with the other sign.
-fn directed(x: Operand, plus: bool) -> Operand
+fn directed(x: Operand, added: bool) -> Operand
     requires { ⌜ x .shift < 512 ⌝ }
-    ensures { λ r. ⌜ (r .shift < 512) × (brought r ≡ directedBy plus (brought x)) ⌝ }
+    ensures { λ r. ⌜ (r .shift < 512) × (brought r ≡ directedBy added (brought x)) ⌝ }
 {
     Operand {
         nar: x.nar,
-        negative: x.negative == plus,
+        negative: x.negative == added,
         shift: x.shift,
         significand: x.significand,
     }
@@ -67,7 +102,7 @@ fn directed(x: Operand, plus: bool) -> Operand
 
 pub(crate) fn step(q: [u64; 8], x: Operand) -> [u64; 8]
     requires { ⌜ x .shift < 512 ⌝ }
-    ensures { λ r. ⌜ r ≡ words 512 (moved true (fromWords 512 q) (brought x)) ⌝ }
+    ensures { λ r. ⌜ r ≡ words 512 (plus 512 (fromWords 512 q) (brought x)) ⌝ }
 {
     if x.nar {
         return [NAR_WORD, 0, 0, 0, 0, 0, 0, 0];

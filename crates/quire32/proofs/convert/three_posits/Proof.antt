@@ -10,8 +10,8 @@ use Rattle.quire32.proofs.convert.three_posits.Tie as tie
 to-posit-requires : tie.Need-to-posit-requires
 to-posit-requires c κs = tt
 
-fdp-one-requires : tie.Need-fdp-one-requires
-fdp-one-requires c κs = tt
+sub-posit-requires : tie.Need-sub-posit-requires
+sub-posit-requires c κs = tt
 
 two-posits-requires : tie.Need-two-posits-requires
 two-posits-requires c κs = tt
@@ -21,8 +21,8 @@ returns c =
     let k = c .before .before .before .before in
     let first = k .to-posit .result .0 in
     ap (λ (l : List ℕ). first ∷ l) (c .before .before .two-posits .ensures)
-    ∙ parts-next 2 first (fromWords 512 (k .before .args .q)) (c .before .before .before .fdp-one .result) (k .to-posit .ensures) (c .before .before .before .fdp-one .ensures)
+    ∙ parts-next 2 first (fromWords 512 (k .before .args .q)) (c .before .before .before .sub-posit .result) (k .to-posit .ensures) (c .before .before .before .sub-posit .ensures)
 
 pub three-posits-spec : {M : Type 1} → statement M
 three-posits-spec =
-    tie.close (tie.spec to-posit-requires fdp-one-requires two-posits-requires returns)
+    tie.close (tie.spec to-posit-requires sub-posit-requires two-posits-requires returns)

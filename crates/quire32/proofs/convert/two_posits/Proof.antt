@@ -11,8 +11,8 @@ use Rattle.quire32.proofs.convert.two_posits.Tie as tie
 to-posit-requires : tie.Need-to-posit-requires
 to-posit-requires c κs = search needs
 
-fdp-one-requires : tie.Need-fdp-one-requires
-fdp-one-requires c κs = search needs
+sub-posit-requires : tie.Need-sub-posit-requires
+sub-posit-requires c κs = search needs
 
 to-posit-requires-2 : tie.Need-to-posit-requires-2
 to-posit-requires-2 c κs = search needs
@@ -21,10 +21,10 @@ returns : tie.Need-returns
 returns c =
     let k = c .before .before in
     let first = k .to-posit .result .0 in
-    let rest = c .before .fdp-one .result in
+    let rest = c .before .sub-posit .result in
     ap (λ (l : List ℕ). first ∷ l) (last-part _ (fromWords 512 rest) (c .to-posit2 .ensures))
-    ∙ parts-next 1 first (fromWords 512 (k .before .args .q)) rest (k .to-posit .ensures) (c .before .fdp-one .ensures)
+    ∙ parts-next 1 first (fromWords 512 (k .before .args .q)) rest (k .to-posit .ensures) (c .before .sub-posit .ensures)
 
 pub two-posits-spec : {M : Type 1} → statement M
 two-posits-spec =
-    tie.close (tie.spec to-posit-requires fdp-one-requires to-posit-requires-2 returns)
+    tie.close (tie.spec to-posit-requires sub-posit-requires to-posit-requires-2 returns)

@@ -8,7 +8,7 @@ use Rattle.quire32.specs.Operand.{amount, directedBy}
 use Rattle.quire32.proofs.ops.directed.Statement.{statement}
 use Rattle.quire32.proofs.ops.directed.Tie as tie
 
-turned-round : (n s plus : Bool) (a : ℕ) → cond n notReal (total (withSign (Bool·beq s plus) a)) ≡ directedBy plus (cond n notReal (total (withSign s a)))
+turned-round : (n s added : Bool) (a : ℕ) → cond n notReal (total (withSign (Bool·beq s added) a)) ≡ directedBy added (cond n notReal (total (withSign s a)))
 unfolding negated
 turned-round true s true a = refl
 turned-round true s false a = refl
@@ -20,7 +20,7 @@ turned-round false false false a = ap total (sym (negated-sign false a))
 returns : tie.Need-returns
 returns c =
     let x = c .before .args .x in
-    (c .before .pre, turned-round (x .nar) (x .negative) (c .before .args .plus) (amount x))
+    (c .before .pre, turned-round (x .nar) (x .negative) (c .before .args .added) (amount x))
 
 pub directed-spec : {M : Type 1} → statement M
 directed-spec = tie.close (tie.spec returns)

@@ -20,8 +20,8 @@ returns : tie.Need-returns
 returns c =
     let a = c .before .before .before .args in
     c .step .ensures
-    ∙ ap (λ x. words 512 (plus 512 (fromWords 512 (a .q)) x)) (c .before .directed .ensures .1 ∙ ap (directedBy (a .plus)) (c .before .before .posit-of .ensures .1))
-    ∙ ap (words 512) (directed-moves (a .plus) (fromWords 512 (a .q)) _)
+    ∙ ap (λ x. words 512 (plus 512 (fromWords 512 (a .q)) x)) (c .before .directed .ensures .1 ∙ ap (directedBy (a .added)) (c .before .before .posit-of .ensures .1))
+    ∙ ap (words 512) (directed-moves (a .added) (fromWords 512 (a .q)) _)
 
 pub fdp-one-spec : {M : Type 1} → statement M
 fdp-one-spec = tie.close (tie.spec posit-of-requires directed-requires step-requires returns)

@@ -1,0 +1,18 @@
+-- `Q32E2::clear` meets its contract: it stores what `ops::cleared` returns.
+use mathlib.Core.Path.{_≡_}
+use mathlib.Core.List.{[]}
+use Rattle.posit.specs.Accumulator.{clear, words}
+use Rattle.lend.proofs.Core.{without}
+use Rattle.lend.proofs.Lent.{writes}
+use Rattle.quire32.proofs.Solids.{quire-holds}
+use Rattle.quire32.proofs.ops.cleared.Symbol as core
+use Rattle.quire32.proofs.ops.cleared.Met as core-thm
+use Rattle.quire32.proofs.Q32E2.clear.Key as key
+use Rattle.quire32.proofs.Q32E2.clear.Statement as stated
+use Rattle.quire32.proofs.Q32E2.clear.Code as code
+
+pub clear-spec : {M : Type 1} → stated.statement M
+unfolding code.routine
+clear-spec 𝓤 H 𝓜 𝓖 𝓡 =
+    writes without quire-holds [] (λ _ r. r ≡ words 512 clear) 𝓤
+    code.env key.name core.name core.routine code.calls-quire32·ops·cleared H 𝓜 𝓖 𝓡 (core-thm.met 𝓤 H 𝓜 𝓖 𝓡) (code.unfolded 𝓤 H 𝓜 𝓡)

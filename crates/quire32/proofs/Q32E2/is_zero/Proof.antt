@@ -1,0 +1,19 @@
+-- `Q32E2::is_zero` meets its contract: it answers what `ops::is_zero` does of its words.
+use mathlib.Core.Path.{_≡_}
+use mathlib.Core.List.{[]}
+use Rattle.posit.specs.Accumulator.{isClear, fromWords}
+use Rattle.lend.proofs.Solid.{boolean}
+use Rattle.lend.proofs.Core.{with-field}
+use Rattle.lend.proofs.Lent.{answers}
+use Rattle.quire32.proofs.Solids.{quire-holds}
+use Rattle.quire32.proofs.ops.is_zero.Symbol as core
+use Rattle.quire32.proofs.ops.is_zero.Met as core-thm
+use Rattle.quire32.proofs.Q32E2.is_zero.Key as key
+use Rattle.quire32.proofs.Q32E2.is_zero.Statement as stated
+use Rattle.quire32.proofs.Q32E2.is_zero.Code as code
+
+pub is-zero-spec : {M : Type 1} → stated.statement M
+unfolding code.routine
+is-zero-spec 𝓤 H 𝓜 𝓖 𝓡 =
+    answers with-field quire-holds [] boolean (λ (ws, _) r. r ≡ isClear (fromWords 512 ws)) 𝓤
+    code.env key.name core.name core.routine code.calls-quire32·ops·is-zero H 𝓜 𝓖 𝓡 (core-thm.met 𝓤 H 𝓜 𝓖 𝓡) (code.unfolded 𝓤 H 𝓜 𝓡)
