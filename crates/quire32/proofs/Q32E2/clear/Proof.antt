@@ -1,5 +1,5 @@
 -- `Q32E2::clear` meets its contract: it stores what `ops::cleared` returns.
-use mathlib.Core.Path.{_≡_}
+use mathlib.Core.Path.{_≡_, refl}
 use mathlib.Core.List.{[]}
 use Rattle.posit.specs.Accumulator.{clear, words}
 use Rattle.lend.proofs.Core.{without}
@@ -15,4 +15,4 @@ pub clear-spec : {M : Type 1} → stated.statement M
 unfolding code.routine
 clear-spec 𝓤 H 𝓜 𝓖 𝓡 =
     writes without quire-holds [] (λ _ r. r ≡ words 512 clear) 𝓤
-    code.env key.name core.name core.routine code.calls-quire32·ops·cleared H 𝓜 𝓖 𝓡 (core-thm.met 𝓤 H 𝓜 𝓖 𝓡) (code.unfolded 𝓤 H 𝓜 𝓡)
+    code.env key.name core.name core.routine refl H 𝓜 𝓖 𝓡 (core-thm.met 𝓤 H 𝓜 𝓖 𝓡) (code.unfolded 𝓤 H 𝓜 𝓡)

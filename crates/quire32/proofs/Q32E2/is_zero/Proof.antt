@@ -1,5 +1,5 @@
 -- `Q32E2::is_zero` meets its contract: it answers what `ops::is_zero` does of its words.
-use mathlib.Core.Path.{_≡_}
+use mathlib.Core.Path.{_≡_, refl}
 use mathlib.Core.List.{[]}
 use Rattle.posit.specs.Accumulator.{isClear, fromWords}
 use Rattle.lend.proofs.Solid.{boolean}
@@ -16,4 +16,4 @@ pub is-zero-spec : {M : Type 1} → stated.statement M
 unfolding code.routine
 is-zero-spec 𝓤 H 𝓜 𝓖 𝓡 =
     answers with-field quire-holds [] boolean (λ (ws, _) r. r ≡ isClear (fromWords 512 ws)) 𝓤
-    code.env key.name core.name core.routine code.calls-quire32·ops·is-zero H 𝓜 𝓖 𝓡 (core-thm.met 𝓤 H 𝓜 𝓖 𝓡) (code.unfolded 𝓤 H 𝓜 𝓡)
+    code.env key.name core.name core.routine refl H 𝓜 𝓖 𝓡 (core-thm.met 𝓤 H 𝓜 𝓖 𝓡) (code.unfolded 𝓤 H 𝓜 𝓡)

@@ -1,5 +1,5 @@
 -- `Q32E2::neg` meets its contract: it stores what `ops::neg` makes of its words.
-use mathlib.Core.Path.{_≡_}
+use mathlib.Core.Path.{_≡_, refl}
 use mathlib.Core.List.{[]}
 use Rattle.posit.specs.Accumulator.{negated, words, fromWords}
 use Rattle.lend.proofs.Core.{with-field}
@@ -15,4 +15,4 @@ pub neg-spec : {M : Type 1} → stated.statement M
 unfolding code.routine
 neg-spec 𝓤 H 𝓜 𝓖 𝓡 =
     writes with-field quire-holds [] (λ (ws, _) r. r ≡ words 512 (negated (fromWords 512 ws))) 𝓤
-    code.env key.name core.name core.routine code.calls-quire32·ops·neg H 𝓜 𝓖 𝓡 (core-thm.met 𝓤 H 𝓜 𝓖 𝓡) (code.unfolded 𝓤 H 𝓜 𝓡)
+    code.env key.name core.name core.routine refl H 𝓜 𝓖 𝓡 (core-thm.met 𝓤 H 𝓜 𝓖 𝓡) (code.unfolded 𝓤 H 𝓜 𝓡)

@@ -1,5 +1,5 @@
 -- `Q32E2::sub_posit` meets its contract: it stores what `ops::sub_posit` makes of its words and the posit.
-use mathlib.Core.Path.{_≡_}
+use mathlib.Core.Path.{_≡_, refl}
 use mathlib.Core.List.{[], _∷_}
 use Rattle.posit.specs.Accumulator.{ofPosit, minus, words, fromWords}
 use Rattle.lend.proofs.Core.{with-field}
@@ -15,4 +15,4 @@ pub sub-posit-spec : {M : Type 1} → stated.statement M
 unfolding code.routine
 sub-posit-spec 𝓤 H 𝓜 𝓖 𝓡 =
     writes with-field quire-holds (posit ∷ []) (λ (ws, (p, _)) r. r ≡ words 512 (minus 512 (fromWords 512 ws) (ofPosit 2 31 (p .0)))) 𝓤
-    code.env key.name core.name core.routine code.calls-quire32·ops·sub-posit H 𝓜 𝓖 𝓡 (core-thm.met 𝓤 H 𝓜 𝓖 𝓡) (code.unfolded 𝓤 H 𝓜 𝓡)
+    code.env key.name core.name core.routine refl H 𝓜 𝓖 𝓡 (core-thm.met 𝓤 H 𝓜 𝓖 𝓡) (code.unfolded 𝓤 H 𝓜 𝓡)

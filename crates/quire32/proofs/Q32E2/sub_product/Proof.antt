@@ -1,5 +1,5 @@
 -- `Q32E2::sub_product` meets its contract: it stores what `ops::sub_product` makes of its words and the two posits.
-use mathlib.Core.Path.{_≡_}
+use mathlib.Core.Path.{_≡_, refl}
 use mathlib.Core.List.{[], _∷_}
 use Rattle.posit.specs.Accumulator.{ofProduct, minus, words, fromWords}
 use Rattle.lend.proofs.Core.{with-field}
@@ -15,4 +15,4 @@ pub sub-product-spec : {M : Type 1} → stated.statement M
 unfolding code.routine
 sub-product-spec 𝓤 H 𝓜 𝓖 𝓡 =
     writes with-field quire-holds (posit ∷ posit ∷ []) (λ (ws, (a, (b, _))) r. r ≡ words 512 (minus 512 (fromWords 512 ws) (ofProduct 2 31 (a .0) (b .0)))) 𝓤
-    code.env key.name core.name core.routine code.calls-quire32·ops·sub-product H 𝓜 𝓖 𝓡 (core-thm.met 𝓤 H 𝓜 𝓖 𝓡) (code.unfolded 𝓤 H 𝓜 𝓡)
+    code.env key.name core.name core.routine refl H 𝓜 𝓖 𝓡 (core-thm.met 𝓤 H 𝓜 𝓖 𝓡) (code.unfolded 𝓤 H 𝓜 𝓡)

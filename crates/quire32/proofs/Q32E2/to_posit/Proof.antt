@@ -1,5 +1,5 @@
 -- `Q32E2::to_posit` meets its contract: it answers what `convert::to_posit` does of its words.
-use mathlib.Core.Path.{_≡_}
+use mathlib.Core.Path.{_≡_, refl}
 use mathlib.Core.List.{[]}
 use Rattle.posit.specs.Accumulator.{toPosit, fromWords}
 use Rattle.lend.proofs.Core.{with-field}
@@ -15,4 +15,4 @@ pub to-posit-spec : {M : Type 1} → stated.statement M
 unfolding code.routine
 to-posit-spec 𝓤 H 𝓜 𝓖 𝓡 =
     answers with-field quire-holds [] posit (λ (ws, _) r. r .0 ≡ toPosit 2 31 (fromWords 512 ws)) 𝓤
-    code.env key.name core.name core.routine code.calls-quire32·convert·to-posit H 𝓜 𝓖 𝓡 (core-thm.met 𝓤 H 𝓜 𝓖 𝓡) (code.unfolded 𝓤 H 𝓜 𝓡)
+    code.env key.name core.name core.routine refl H 𝓜 𝓖 𝓡 (core-thm.met 𝓤 H 𝓜 𝓖 𝓡) (code.unfolded 𝓤 H 𝓜 𝓡)
