@@ -1,18 +1,13 @@
 // The accumulator Q32E2: sums of posits of 32 bits and of their exact products, without rounding. It counts units of 2^-240 in 512 bits.
-mod operands; // operands.rt: what a step brings
-mod words; // words.rt: 512 bits in eight words, by value
-pub mod convert; // convert.rt: between words and posits
-pub mod ops; // ops.rt: the steps
-
 ghost use mathlib.Core.Path.{_≡_};
 ghost use mathlib.Core.List.{[], _∷_};
 ghost use Rattle.posit.specs.Accumulator.{clear, isNotReal, isClear, ofPosit, ofProduct, plus, minus, negated, toPosit, partsOf, words, fromWords};
 ghost use Rattle.quire32.specs.Constants.{constants};
-use convert::ThreePosits;
-use convert::TwoPosits;
-use convert::three_posits;
-use convert::two_posits;
 use p32e2::P32E2;
+use quire_totals::ThreePosits;
+use quire_totals::TwoPosits;
+use quire_totals::three_posits;
+use quire_totals::two_posits;
 
 // The eight words, word 0 most significant: one number in two's complement. The one pattern of -2^511 is NaR.
 pub struct Q32E2(pub [u64; 8]);
@@ -39,7 +34,7 @@ impl Q32E2 {
     pub fn from_posit(p: P32E2) -> Q32E2
         ensures { λ r. ⌜ r .0 ≡ words 512 (ofPosit 2 31 (p .0)) ⌝ }
     {
-        Q32E2(convert::from_posit(p))
+        Q32E2(quire_steps::from_posit(p))
     }
 
     pub fn to_bits(&self) -> [u64; 8]
@@ -51,55 +46,55 @@ impl Q32E2 {
     pub fn to_posit(&self) -> P32E2
         ensures { λ r. ⌜ r .0 ≡ toPosit 2 31 (fromWords 512 (now (self .entry) .0)) ⌝ }
     {
-        convert::to_posit(self.0)
+        quire_totals::to_posit(self.0)
     }
 
     pub fn is_zero(&self) -> bool
         ensures { λ r. ⌜ r ≡ isClear (fromWords 512 (now (self .entry) .0)) ⌝ }
     {
-        ops::is_zero(self.0)
+        quire_steps::is_zero(self.0)
     }
 
     pub fn is_nar(&self) -> bool
         ensures { λ r. ⌜ r ≡ isNotReal (fromWords 512 (now (self .entry) .0)) ⌝ }
     {
-        ops::is_nar(self.0)
+        quire_steps::is_nar(self.0)
     }
 
     pub fn add_product(&mut self, a: P32E2, b: P32E2)
         ensures { λ _. ⌜ now (self .exit) .0 ≡ words 512 (plus 512 (fromWords 512 (now (self .entry) .0)) (ofProduct 2 31 (a .0) (b .0))) ⌝ }
     {
-        self.0 = ops::add_product(self.0, a, b);
+        self.0 = quire_steps::add_product(self.0, a, b);
     }
 
     pub fn sub_product(&mut self, a: P32E2, b: P32E2)
         ensures { λ _. ⌜ now (self .exit) .0 ≡ words 512 (minus 512 (fromWords 512 (now (self .entry) .0)) (ofProduct 2 31 (a .0) (b .0))) ⌝ }
     {
-        self.0 = ops::sub_product(self.0, a, b);
+        self.0 = quire_steps::sub_product(self.0, a, b);
     }
 
     pub fn add_posit(&mut self, p: P32E2)
         ensures { λ _. ⌜ now (self .exit) .0 ≡ words 512 (plus 512 (fromWords 512 (now (self .entry) .0)) (ofPosit 2 31 (p .0))) ⌝ }
     {
-        self.0 = ops::add_posit(self.0, p);
+        self.0 = quire_steps::add_posit(self.0, p);
     }
 
     pub fn sub_posit(&mut self, p: P32E2)
         ensures { λ _. ⌜ now (self .exit) .0 ≡ words 512 (minus 512 (fromWords 512 (now (self .entry) .0)) (ofPosit 2 31 (p .0))) ⌝ }
     {
-        self.0 = ops::sub_posit(self.0, p);
+        self.0 = quire_steps::sub_posit(self.0, p);
     }
 
     pub fn neg(&mut self)
         ensures { λ _. ⌜ now (self .exit) .0 ≡ words 512 (negated (fromWords 512 (now (self .entry) .0))) ⌝ }
     {
-        self.0 = ops::neg(self.0);
+        self.0 = quire_steps::neg(self.0);
     }
 
     pub fn clear(&mut self)
         ensures { λ _. ⌜ now (self .exit) .0 ≡ words 512 clear ⌝ }
     {
-        self.0 = ops::cleared();
+        self.0 = quire_steps::cleared();
     }
 
     pub fn into_two_posits(self) -> TwoPosits

@@ -5,8 +5,8 @@ use Rattle.posit.specs.Accumulator.{ofPosit, plus, words, fromWords}
 use Rattle.lend.proofs.Core.{with-field}
 use Rattle.lend.proofs.Lent.{writes}
 use Rattle.quire32.proofs.Solids.{posit, quire-holds}
-use Rattle.quire32.proofs.ops.add_posit.Symbol as core
-use Rattle.quire32.proofs.ops.add_posit.Met as core-thm
+use Rattle.quire_steps.proofs.add_posit.Symbol as core
+use Rattle.quire_steps.proofs.add_posit.Met as core-thm
 use Rattle.quire32.proofs.Q32E2.add_posit.Key as key
 use Rattle.quire32.proofs.Q32E2.add_posit.Statement as stated
 use Rattle.quire32.proofs.Q32E2.add_posit.Code as code

@@ -5,8 +5,8 @@ use Rattle.posit.specs.Accumulator.{clear, words}
 use Rattle.lend.proofs.Core.{without}
 use Rattle.lend.proofs.Lent.{writes}
 use Rattle.quire32.proofs.Solids.{quire-holds}
-use Rattle.quire32.proofs.ops.cleared.Symbol as core
-use Rattle.quire32.proofs.ops.cleared.Met as core-thm
+use Rattle.quire_steps.proofs.cleared.Symbol as core
+use Rattle.quire_steps.proofs.cleared.Met as core-thm
 use Rattle.quire32.proofs.Q32E2.clear.Key as key
 use Rattle.quire32.proofs.Q32E2.clear.Statement as stated
 use Rattle.quire32.proofs.Q32E2.clear.Code as code

@@ -6,8 +6,8 @@ use Rattle.lend.proofs.Solid.{boolean}
 use Rattle.lend.proofs.Core.{with-field}
 use Rattle.lend.proofs.Lent.{answers}
 use Rattle.quire32.proofs.Solids.{quire-holds}
-use Rattle.quire32.proofs.ops.is_zero.Symbol as core
-use Rattle.quire32.proofs.ops.is_zero.Met as core-thm
+use Rattle.quire_steps.proofs.is_zero.Symbol as core
+use Rattle.quire_steps.proofs.is_zero.Met as core-thm
 use Rattle.quire32.proofs.Q32E2.is_zero.Key as key
 use Rattle.quire32.proofs.Q32E2.is_zero.Statement as stated
 use Rattle.quire32.proofs.Q32E2.is_zero.Code as code

@@ -5,8 +5,8 @@ use Rattle.posit.specs.Accumulator.{negated, words, fromWords}
 use Rattle.lend.proofs.Core.{with-field}
 use Rattle.lend.proofs.Lent.{writes}
 use Rattle.quire32.proofs.Solids.{quire-holds}
-use Rattle.quire32.proofs.ops.neg.Symbol as core
-use Rattle.quire32.proofs.ops.neg.Met as core-thm
+use Rattle.quire_steps.proofs.neg.Symbol as core
+use Rattle.quire_steps.proofs.neg.Met as core-thm
 use Rattle.quire32.proofs.Q32E2.neg.Key as key
 use Rattle.quire32.proofs.Q32E2.neg.Statement as stated
 use Rattle.quire32.proofs.Q32E2.neg.Code as code

@@ -5,8 +5,8 @@ use Rattle.posit.specs.Accumulator.{ofPosit, minus, words, fromWords}
 use Rattle.lend.proofs.Core.{with-field}
 use Rattle.lend.proofs.Lent.{writes}
 use Rattle.quire32.proofs.Solids.{posit, quire-holds}
-use Rattle.quire32.proofs.ops.sub_posit.Symbol as core
-use Rattle.quire32.proofs.ops.sub_posit.Met as core-thm
+use Rattle.quire_steps.proofs.sub_posit.Symbol as core
+use Rattle.quire_steps.proofs.sub_posit.Met as core-thm
 use Rattle.quire32.proofs.Q32E2.sub_posit.Key as key
 use Rattle.quire32.proofs.Q32E2.sub_posit.Statement as stated
 use Rattle.quire32.proofs.Q32E2.sub_posit.Code as code

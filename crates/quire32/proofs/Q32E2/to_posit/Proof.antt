@@ -5,8 +5,8 @@ use Rattle.posit.specs.Accumulator.{toPosit, fromWords}
 use Rattle.lend.proofs.Core.{with-field}
 use Rattle.lend.proofs.Lent.{answers}
 use Rattle.quire32.proofs.Solids.{posit, quire-holds}
-use Rattle.quire32.proofs.convert.to_posit.Symbol as core
-use Rattle.quire32.proofs.convert.to_posit.Met as core-thm
+use Rattle.quire_totals.proofs.to_posit.Symbol as core
+use Rattle.quire_totals.proofs.to_posit.Met as core-thm
 use Rattle.quire32.proofs.Q32E2.to_posit.Key as key
 use Rattle.quire32.proofs.Q32E2.to_posit.Statement as stated
 use Rattle.quire32.proofs.Q32E2.to_posit.Code as code

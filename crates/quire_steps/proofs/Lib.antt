@@ -1,0 +1,5 @@
+-- The laws that the functions' proofs use.
+pub mod Range
+pub mod Brought
+pub mod Moved
+pub mod Stepped

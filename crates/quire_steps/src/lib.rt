@@ -1,0 +1,154 @@
+// The steps of the accumulator, by value: an operand is placed, added, and the new total judged by the range.
+mod operands; // operands.rt: what a step brings
+
+ghost use mathlib.Core.Path.{_≡_};
+ghost use mathlib.Core.Bool.{cond};
+ghost use Prim.Native.Nat.{_-_, _^_, _<_};
+ghost use lib.Dec.{leb};
+ghost use Rattle.posit.specs.Accumulator.{clear, isNotReal, isClear, ofPosit, ofProduct, plus, minus, negated, words, fromWords};
+ghost use Rattle.quire_words.specs.Words.{wide};
+ghost use Rattle.quire_steps.specs.Operand.{amount, brought, directedBy, turned, escaped};
+ghost use Rattle.quire_steps.specs.Step.{moved};
+use operands::Operand;
+use operands::posit_of;
+use operands::product_of;
+use p32e2::P32E2;
+use quire_words::NAR_WORD;
+use quire_words::add;
+use quire_words::is_alone;
+use quire_words::negative_of;
+use quire_words::sign_of;
+
+// The exact product of a and b, added.
+pub fn add_product(q: [u64; 8], a: P32E2, b: P32E2) -> [u64; 8]
+    ensures { λ r. ⌜ r ≡ words 512 (plus 512 (fromWords 512 q) (ofProduct 2 31 (a .0) (b .0))) ⌝ }
+{
+    fdp(q, a, b, true)
+}
+
+// The exact product of a and b, taken.
+pub fn sub_product(q: [u64; 8], a: P32E2, b: P32E2) -> [u64; 8]
+    ensures { λ r. ⌜ r ≡ words 512 (minus 512 (fromWords 512 q) (ofProduct 2 31 (a .0) (b .0))) ⌝ }
+{
+    fdp(q, a, b, false)
+}
+
+// One posit, added.
+pub fn add_posit(q: [u64; 8], p: P32E2) -> [u64; 8]
+    ensures { λ r. ⌜ r ≡ words 512 (plus 512 (fromWords 512 q) (ofPosit 2 31 (p .0))) ⌝ }
+{
+    fdp_one(q, p, true)
+}
+
+// One posit, taken.
+pub fn sub_posit(q: [u64; 8], p: P32E2) -> [u64; 8]
+    ensures { λ r. ⌜ r ≡ words 512 (minus 512 (fromWords 512 q) (ofPosit 2 31 (p .0))) ⌝ }
+{
+    fdp_one(q, p, false)
+}
+
+// The negative of the whole number. That of NaR's pattern is that pattern.
+pub fn neg(q: [u64; 8]) -> [u64; 8]
+    ensures { λ r. ⌜ r ≡ words 512 (negated (fromWords 512 q)) ⌝ }
+{
+    negative_of(q)
+}
+
+pub fn is_zero(q: [u64; 8]) -> bool
+    ensures { λ r. ⌜ r ≡ isClear (fromWords 512 q) ⌝ }
+{
+    is_alone(q, 0)
+}
+
+pub fn is_nar(q: [u64; 8]) -> bool
+    ensures { λ r. ⌜ r ≡ isNotReal (fromWords 512 q) ⌝ }
+{
+    is_alone(q, NAR_WORD)
+}
+
+// The state after `clear`.
+pub fn cleared() -> [u64; 8]
+    ensures { λ r. ⌜ r ≡ words 512 clear ⌝ }
+{
+    [0; 8]
+}
+
+// The state that a posit is.
+pub fn from_posit(p: P32E2) -> [u64; 8]
+    ensures { λ r. ⌜ r ≡ words 512 (ofPosit 2 31 (p .0)) ⌝ }
+{
+    step([0; 8], posit_of(p))
+}
+
+// A product in one of the two directions: added, or taken where `added` is false.
+fn fdp(q: [u64; 8], a: P32E2, b: P32E2, added: bool) -> [u64; 8]
+    ensures { λ r. ⌜ r ≡ words 512 (moved added (fromWords 512 q) (ofProduct 2 31 (a .0) (b .0))) ⌝ }
+{
+    step(q, directed(product_of(a, b), added))
+}
+
+// The same for one posit.
+fn fdp_one(q: [u64; 8], p: P32E2, added: bool) -> [u64; 8]
+    ensures { λ r. ⌜ r ≡ words 512 (moved added (fromWords 512 q) (ofPosit 2 31 (p .0))) ⌝ }
+{
+    step(q, directed(posit_of(p), added))
+}
+
+// To take an operand is to add it with the other sign.
+fn directed(x: Operand, added: bool) -> Operand
+    requires { ⌜ x .shift < 512 ⌝ }
+    ensures { λ r. ⌜ (r .shift < 512) × (brought r ≡ directedBy added (brought x)) ⌝ }
+{
+    Operand {
+        nar: x.nar,
+        negative: x.negative == added,
+        shift: x.shift,
+        significand: x.significand,
+    }
+}
+
+fn step(q: [u64; 8], x: Operand) -> [u64; 8]
+    requires { ⌜ x .shift < 512 ⌝ }
+    ensures { λ r. ⌜ r ≡ words 512 (plus 512 (fromWords 512 q) (brought x)) ⌝ }
+{
+    if x.nar {
+        return [NAR_WORD, 0, 0, 0, 0, 0, 0, 0];
+    }
+    if is_alone(q, NAR_WORD) {
+        return [NAR_WORD, 0, 0, 0, 0, 0, 0, 0];
+    }
+    judged(q, x.negative, add(q, placed(x), x.negative))
+}
+
+// The words of an operand. Where it is below 0 they are complemented, and the one that its negative lacks is carried into the sum.
+fn placed(x: Operand) -> [u64; 8]
+    requires { ⌜ x .shift < 512 ⌝ }
+    ensures { λ r. ⌜ wide r ≡ turned (x .negative) (2 ^ 512 - 1) (amount x) ⌝ }
+{
+    let j = (x.shift / 64) as usize;
+    let o = x.shift % 64;
+    let mut r = [turned_word(0, x.negative); 8];
+    r[7 - j] = turned_word((x.significand >> 1) >> (63 - o), x.negative);
+    if j == 0 {
+        return r;
+    }
+    r[8 - j] = turned_word(x.significand << o, x.negative);
+    r
+}
+
+fn turned_word(x: u64, complemented: bool) -> u64
+    ensures { λ r. ⌜ r ≡ turned complemented (2 ^ 64 - 1) x ⌝ }
+{
+    if complemented { !x } else { x }
+}
+
+// The range: where the total and the operand were of one sign, and the wrapped sum is of the other, the exact total is outside. The three signs are tested
+// at once, since they are hard to foretell one by one.
+fn judged(before: [u64; 8], negative: bool, after: [u64; 8]) -> [u64; 8]
+    ensures { λ r. ⌜ wide r ≡ cond (escaped (leb (2 ^ 511) (wide before)) negative (leb (2 ^ 511) (wide after))) (2 ^ 511) (wide after) ⌝ }
+{
+    if sign_of(before) + 2 * sign_of(after) == 2 - negative as u64 {
+        return [NAR_WORD, 0, 0, 0, 0, 0, 0, 0];
+    }
+    after
+}

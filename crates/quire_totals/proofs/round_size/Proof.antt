@@ -1,0 +1,60 @@
+-- `round_size` meets its contract: the number in the units of `pack` lies from its first digits up to the next such number (`wide-rounds`).
+use mathlib.Core.Path.{_≡_, refl, sym, ap, _∙_}
+use mathlib.Core.Bool.{Bool}
+use Prim.Native.Nat.{ℕ, suc, _+_, _*_, _/_, _%_, _^_, _≤_, _<_}
+use native.Mathlib.Nat.{mul-one, mul-pos, sub-zero, le-trans}
+use native.Mathlib.Omega.{arith}
+use borrow.Author.Needs.{needs}
+use lib.Dec.{ltb, lit≤}
+use lib.IntN.{pos, _*ℤ_}
+use lib.Pow.{pow-pos}
+use mir.Val.{boolByte}
+use Rattle.posit.specs.Exact.{whole}
+use Rattle.posit.specs.Rounding.{round, rounded, signed}
+use Rattle.posit.proofs.Signs.{withSign, scaled-sign}
+use Rattle.posit.proofs.Finer.{rounded-finer}
+use Rattle.posit.proofs.Value.{rounded-signed}
+use Rattle.p32e2.specs.Packed.{packedSize}
+use Rattle.p32e2.proofs.Machine.{digit-is}
+use Rattle.p32e2.proofs.Wide.{wide-rounds}
+use Rattle.quire_words.specs.Words.{wide}
+use Rattle.quire_totals.specs.Leading.{Leads}
+use Rattle.quire_words.proofs.Places.{digit-le}
+use Rattle.quire_totals.proofs.round_size.Statement.{statement}
+use Rattle.quire_totals.proofs.round_size.Tie as tie
+
+leads-rounded : (s : Bool) (x u d : ℕ) (more : Bool) → 0 < x → Leads x u d more
+    → rounded 2 31 240 (withSign s x) ≡ signed 31 s (round 2 31 1086 (whole (packedSize (u + 1) (d / 4) (ltb 0 (d % 4 + boolByte more)))))
+leads-rounded s x u d more p l =
+    let sound = mul-pos p (pow-pos 846) in
+    rounded-finer 2 31 240 846 (lit≤ tt) (withSign s x)
+    ∙ ap (rounded 2 31 1086) (scaled-sign s x (2 ^ 846))
+    ∙ rounded-signed 2 31 1086 s (x * 2 ^ 846) sound
+    ∙ ap (signed 31 s) (rw (mul-one, sub-zero, ← digit-is more) at
+    (wide-rounds d 0 u (rw mul-one (l .top)) (rw mul-one (l .word)) (omega arith) (whole (x * 2 ^ 846)) sound more (record { low = l .low; high = l .high }) (sym (l .more-is)) (λ _. le-trans (lit≤ tt) (l .top))))
+
+first-digits-requires : tie.Need-first-digits-requires
+first-digits-requires c κs = search needs
+
+add-pack : tie.Need-add-pack
+add-pack c = search needs
+
+cast-pack : tie.Need-cast-pack
+cast-pack c = search needs
+
+add-pack-2 : tie.Need-add-pack-2
+add-pack-2 c = record { fits = omega (arith, digit-le (c .before .before .before .before .first-digits .result .more)) }
+
+pack-requires : tie.Need-pack-requires
+pack-requires c κs = search needs
+
+returns : tie.Need-returns
+returns c =
+    let k = c .before .before .before .before .before in
+    let a = k .before .args in
+    let x = k .first-digits .result in
+    c .pack .ensures ∙ sym (leads-rounded (a .negative) (wide (a .w)) (x .unit) (x .digits) (x .more) (k .before .pre) (k .first-digits .ensures))
+
+pub round-size-spec : {M : Type 1} → statement M
+round-size-spec =
+    tie.close (tie.spec first-digits-requires add-pack cast-pack add-pack-2 pack-requires returns)

@@ -1,0 +1,2 @@
+-- What the inner contracts of this crate mean.
+pub mod Leading

@@ -1,0 +1,2 @@
+-- What the contracts of this crate mean.
+pub mod Words
