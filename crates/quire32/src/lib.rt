@@ -40,7 +40,7 @@ impl Q32E2 {
     pub fn to_bits(&self) -> [u64; 8]
         ensures { λ r. ⌜ r ≡ now (self .entry) .0 ⌝ }
     {
-        self.0
+        self.0 // every word, as it stands
     }
 
     pub fn to_posit(&self) -> P32E2

@@ -148,7 +148,8 @@ fn judged(before: [u64; 8], negative: bool, after: [u64; 8]) -> [u64; 8]
     ensures { λ r. ⌜ wide r ≡ cond (escaped (leb (2 ^ 511) (wide before)) negative (leb (2 ^ 511) (wide after))) (2 ^ 511) (wide after) ⌝ }
 {
     if sign_of(before) + 2 * sign_of(after) == 2 - negative as u64 {
-        return [NAR_WORD, 0, 0, 0, 0, 0, 0, 0];
+        [NAR_WORD, 0, 0, 0, 0, 0, 0, 0]
+    } else {
+        after
     }
-    after
 }
