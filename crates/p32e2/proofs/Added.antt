@@ -14,7 +14,7 @@ use Rattle.posit.specs.Exact.{whole, above}
 use Rattle.posit.specs.Rounding.{rounded}
 use Rattle.posit.proofs.Arith.{pow-sum}
 use Rattle.posit.proofs.Signs.{withSign, sub-mul, sum-same, sum-unlike}
-use Rattle.p32e2.specs.Packed.{asDigit}
+use Rattle.rounding.specs.Packed.{asDigit}
 use Rattle.p32e2.specs.Scaled.{Normal}
 use Rattle.p32e2.specs.Sums.{Near, combine}
 

@@ -12,8 +12,8 @@ use Rattle.posit.specs.Exact.{Exact, whole, ratio, Sound, above, AtLeast, Under
 use Rattle.posit.specs.Rounding.{round}
 use Rattle.posit.proofs.Arith.{pow-sum}
 use Rattle.posit.proofs.Compare.{ltb-factor}
-use Rattle.p32e2.specs.Packed.{packedSize}
-use Rattle.p32e2.proofs.Packed.{significand-stands-for}
+use Rattle.rounding.specs.Packed.{packedSize}
+use Rattle.rounding.proofs.Packed.{significand-stands-for}
 
 module _ (g d c e : ℕ) (g-pos : 0 < g) (d-pos : 0 < d) (near : e ≤ c + 1054) (n : ℕ) (dividend : n ≡ g * 2 ^ 32) where
   abbrev sizesRatio : Exact

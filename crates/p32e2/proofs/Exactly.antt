@@ -17,7 +17,7 @@ use Rattle.posit.proofs.Size.{size-unit}
 use Rattle.posit.proofs.Parts.{unsigned-positive, value-real}
 use Rattle.posit.proofs.Finer.{rounded-finer, sum-finer}
 use Rattle.posit.proofs.Value.{rounded-signed}
-use Rattle.p32e2.specs.Packed.{packedSize}
+use Rattle.rounding.specs.Packed.{packedSize}
 use Rattle.p32e2.specs.Scaled.{InScale, Scales, Real, Normal, IsTerm, Multiplied}
 
 -- A units of 2 ^ - i are G * 2 ^ c; j binary digits more, of which l go to the significand

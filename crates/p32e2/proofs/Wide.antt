@@ -13,9 +13,9 @@ use Rattle.posit.specs.Exact.{Exact, whole, Sound, bound, told, above, AtLeast,
 use Rattle.posit.specs.Rounding.{round}
 use Rattle.posit.proofs.Arith.{pow-sum}
 use Rattle.posit.proofs.Compare.{told-lt, told-le}
-use Rattle.p32e2.specs.Packed.{asDigit, packedSize}
+use Rattle.rounding.specs.Packed.{asDigit, packedSize}
 use Rattle.p32e2.specs.Sums.{Near}
-use Rattle.p32e2.proofs.Packed.{significand-stands-for}
+use Rattle.rounding.proofs.Packed.{significand-stands-for}
 
 digit-seen : (s : Bool) → s ≡ ltb 0 (0 + asDigit s)
 digit-seen true = refl

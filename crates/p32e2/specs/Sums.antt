@@ -5,7 +5,7 @@ use lib.IntN.{ℤ}
 use Rattle.posit.specs.Exact.{Exact, AtLeast, Under}
 use Rattle.posit.proofs.Signs.{withSign}
 use Rattle.p32e2.specs.declared.terms.Term.{Term}
-use Rattle.p32e2.specs.Packed.{asDigit}
+use Rattle.rounding.specs.Packed.{asDigit}
 
 -- a term without its sign, and with it, in units of 2 ^ - 1086
 abbrev pub magnitude : Term → ℕ

@@ -4,7 +4,6 @@ mod ops; // ops.rt: the arithmetic
 mod scaled; // scaled.rt: a size as a significand at a scale
 mod terms; // terms.rt: posits and products as exact terms
 mod sums; // sums.rt: the sum of two terms
-pub mod pack; // pack.rt: the one rounding
 
 ghost use mathlib.Core.Path.{_≡_};
 ghost use Prim.Native.Nat.{_<_, _^_};

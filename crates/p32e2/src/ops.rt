@@ -8,13 +8,13 @@ ghost use Rattle.posit.specs.Exact.{ratio};
 ghost use Rattle.posit.specs.Rounding.{round, signed};
 ghost use Rattle.posit.specs.Operation.{sum, difference, product, quotient};
 use super::P32E2;
-use super::pack::pack;
 use super::scaled::to_scaled;
 use super::sign_off;
 use super::sums::sum_of;
 use super::terms::pack_term;
 use super::terms::product_of;
 use super::terms::term_of;
+use rounding::pack;
 
 impl P32E2 {
     pub fn neg(self) -> P32E2
@@ -104,10 +104,10 @@ fn div_sizes(negative: bool, a: u32, b: u32) -> P32E2
     let d = y.significand as u64;
     let q = n / d;
     let high = (q >> 32) as u32;
-    pack(
+    P32E2(pack(
         negative,
         1023 + high + x.scale - y.scale,
         q << (30 - high),
         0 < n % d,
-    )
+    ))
 }

@@ -6,12 +6,12 @@ ghost use lib.Dec.{ltb};
 ghost use lib.IntN.{_+ℤ_};
 ghost use Rattle.posit.specs.Exact.{Exact, Sound, above};
 ghost use Rattle.posit.specs.Rounding.{round, rounded, signed};
-ghost use Rattle.p32e2.specs.Packed.{asDigit};
+ghost use Rattle.rounding.specs.Packed.{asDigit};
 ghost use Rattle.p32e2.specs.Scaled.{Normal};
 ghost use Rattle.p32e2.specs.Sums.{magnitude, number, Near, combine};
 use super::P32E2;
-use super::pack::pack;
 use super::terms::Term;
+use rounding::pack;
 
 pub(crate) fn sum_of(x: Term, y: Term) -> P32E2
     requires { ⌜ Normal (x .scale) (x .significand) × Normal (y .scale) (y .significand) ⌝ }
@@ -95,5 +95,5 @@ fn pack_wide(negative: bool, scale: u32, n: u64, sticky: bool) -> P32E2
 {
     let z = u64::leading_zeros(n);
     let m = n << z;
-    pack(negative, scale + 1 - z, m >> 2, 0 < m % 4 + sticky as u64)
+    P32E2(pack(negative, scale + 1 - z, m >> 2, 0 < m % 4 + sticky as u64))
 }

@@ -6,9 +6,9 @@ ghost use Rattle.posit.specs.Operation.{exact, exactProduct};
 ghost use Rattle.posit.proofs.Signs.{withSign};
 ghost use Rattle.p32e2.specs.Scaled.{InScale, Real, Normal, IsTerm, Multiplied};
 use super::P32E2;
-use super::pack::pack;
 use super::scaled::Scaled;
 use super::scaled::scaled_of;
+use rounding::pack;
 
 // significand·2^scale with its sign, in units of 2^-1086; the leading one of the significand is at bit 62, and its lowest bit is 0.
 pub(crate) struct Term {
@@ -66,5 +66,5 @@ pub(crate) fn pack_term(t: Term) -> P32E2
     requires { ⌜ Normal (t .scale) (t .significand) ⌝ }
     ensures { λ r. ⌜ r .0 ≡ rounded 2 31 1086 (withSign (t .negative) (t .significand * 2 ^ t .scale)) ⌝ }
 {
-    pack(t.negative, t.scale, t.significand >> 1, false)
+    P32E2(pack(t.negative, t.scale, t.significand >> 1, false))
 }

@@ -3,8 +3,8 @@ ghost use mathlib.Core.Path.{_≡_};
 ghost use Prim.Native.Nat.{suc, _*_, _≤_, _<_};
 ghost use Rattle.posit.specs.Operation.{squareRoot};
 use crate::P32E2;
-use crate::pack::pack;
 use crate::scaled::to_scaled;
+use rounding::pack;
 
 impl P32E2 {
     // The scale is halved, and where it is odd the significand is doubled first.
@@ -21,7 +21,7 @@ impl P32E2 {
         let a = to_scaled(p);
         let n = (a.significand as u64) << (32 + a.scale % 2);
         let r = root_of(n);
-        pack(false, a.scale / 2 + 768, r << 30, r * r < n)
+        P32E2(pack(false, a.scale / 2 + 768, r << 30, r * r < n))
     }
 }
 

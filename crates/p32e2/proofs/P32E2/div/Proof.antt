@@ -11,7 +11,7 @@ use Rattle.posit.specs.Rounding.{round, signed}
 use Rattle.posit.proofs.Parts.{unsigned-positive}
 use Rattle.posit.proofs.Operation.{neither-nar, quotient-nar}
 use Rattle.posit.proofs.Quotient.{quotient-by-zero, quotient-of-zero, quotient-real}
-use Rattle.p32e2.proofs.Machine.{differ-is}
+use Rattle.rounding.proofs.Machine.{differ-is}
 use Rattle.p32e2.proofs.P32E2.div.Statement.{statement}
 use Rattle.p32e2.proofs.P32E2.div.Tie as tie
 

@@ -15,9 +15,9 @@ use Rattle.posit.specs.Operation.{squareRoot}
 use Rattle.posit.proofs.Compare.{told-lt-back, finer, finer-sound, finer-at-least, finer-under, finer-above}
 use Rattle.posit.proofs.Packing.{Spans}
 use Rattle.posit.proofs.Root.{same-powers, root-of-zero, root-of-none, root-in-units}
-use Rattle.p32e2.specs.Packed.{asDigit, packedSize}
+use Rattle.rounding.specs.Packed.{asDigit, packedSize}
 use Rattle.p32e2.specs.Scaled.{Scales}
-use Rattle.p32e2.proofs.Packed.{stands-for}
+use Rattle.rounding.proofs.Packed.{stands-for}
 use Rattle.p32e2.proofs.P32E2.sqrt.Statement.{statement}
 use Rattle.p32e2.proofs.P32E2.sqrt.Tie as tie
 
@@ -109,7 +109,7 @@ returns-3 c =
     let p = d .before .before .before .before .args .self .0 in
     let a = d .to-scaled in
     let r = c .before .before .root-of in
-    root-rounded p (a .result .scale) (a .result .significand) (omega arith, omega arith) (a .ensures) (r .result) (c .pack .result .0) (r .ensures .0) (r .ensures .1)
+    root-rounded p (a .result .scale) (a .result .significand) (omega arith, omega arith) (a .ensures) (r .result) (c .pack .result) (r .ensures .0) (r .ensures .1)
     (c .pack .ensures)
 
 pub sqrt-spec : {M : Type 1} → statement M

@@ -10,7 +10,7 @@ use lib.Pow.{shl-exact}
 use Rattle.posit.specs.Pattern.{size}
 use Rattle.posit.specs.Exact.{whole, ratio}
 use Rattle.posit.specs.Rounding.{round, signed}
-use Rattle.p32e2.specs.Packed.{packedSize}
+use Rattle.rounding.specs.Packed.{packedSize}
 use Rattle.p32e2.specs.Scaled.{Scales}
 use Rattle.p32e2.proofs.Divided.{ratio-rounds}
 use Rattle.p32e2.proofs.ops.div_sizes.Statement.{statement}

@@ -6,7 +6,7 @@ use native.Mathlib.Nat.{div-eq-of-lt, mod-eq-of-lt, lt-of-lt-of-le}
 use native.Mathlib.Omega.{arith}
 use lib.Dec.{ltb}
 use lib.Pow.{pow-pos, pow-mono}
-use Rattle.p32e2.proofs.Machine.{one-shifted}
+use Rattle.rounding.proofs.Machine.{one-shifted}
 use Rattle.p32e2.proofs.sums.align.Statement.{statement}
 use Rattle.p32e2.proofs.sums.align.Tie as tie
 

@@ -6,7 +6,7 @@ use native.Mathlib.Omega.{arith}
 use borrow.Author.Needs.{needs}
 use mir.Val.{boolByte}
 use Rattle.p32e2.specs.Sums.{combine}
-use Rattle.p32e2.proofs.Machine.{digit-is}
+use Rattle.rounding.proofs.Machine.{digit-is}
 use Rattle.p32e2.proofs.sums.combined.Statement.{statement}
 use Rattle.p32e2.proofs.sums.combined.Tie as tie
 

@@ -10,8 +10,8 @@ use lib.Pow.{pow-pos}
 use Rattle.posit.specs.Exact.{whole}
 use Rattle.posit.specs.Rounding.{round, signed}
 use Rattle.posit.proofs.Arith.{pow-sum}
-use Rattle.p32e2.specs.Packed.{packedSize}
-use Rattle.p32e2.proofs.Machine.{digit-is, digit-lt}
+use Rattle.rounding.specs.Packed.{packedSize}
+use Rattle.rounding.proofs.Machine.{digit-is, digit-lt}
 use Rattle.p32e2.proofs.Wide.{wide-rounds}
 use Rattle.p32e2.proofs.sums.pack_wide.Statement.{statement}
 use Rattle.p32e2.proofs.sums.pack_wide.Tie as tie

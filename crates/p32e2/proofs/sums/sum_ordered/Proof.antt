@@ -10,7 +10,7 @@ use Rattle.posit.specs.Exact.{whole}
 use Rattle.posit.specs.Rounding.{rounded}
 use Rattle.posit.proofs.Signs.{withSign}
 use Rattle.posit.proofs.Value.{rounded-signed}
-use Rattle.p32e2.specs.Packed.{asDigit}
+use Rattle.rounding.specs.Packed.{asDigit}
 use Rattle.p32e2.specs.Sums.{magnitude, combine}
 use Rattle.p32e2.proofs.Added.{greater-scale, less, room, total, Found, found, nothing, sum-total, none-rounded}
 use Rattle.p32e2.proofs.sums.sum_ordered.Statement.{statement}

@@ -1,6 +1,6 @@
 -- `guess` meets its contract, which asks nothing of the answer: each product has two factors of half its word.
 use borrow.Author.Needs.{needs}
-use Rattle.p32e2.proofs.Machine.{product-lt}
+use Rattle.rounding.proofs.Machine.{product-lt}
 use Rattle.p32e2.proofs.math.sqrt.guess.Statement.{statement}
 use Rattle.p32e2.proofs.math.sqrt.guess.Tie as tie
 

@@ -6,7 +6,7 @@ use borrow.Author.Needs.{needs}
 use lib.Dec.{lit<}
 use Rattle.posit.specs.Exact.{root}
 use Rattle.posit.proofs.Compare.{told-lt-back}
-use Rattle.p32e2.proofs.Machine.{product-lt}
+use Rattle.rounding.proofs.Machine.{product-lt}
 use Rattle.p32e2.proofs.math.sqrt.root_of.Statement.{statement}
 use Rattle.p32e2.proofs.math.sqrt.root_of.Tie as tie
 

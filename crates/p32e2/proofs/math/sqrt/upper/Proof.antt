@@ -1,7 +1,7 @@
 -- `upper` meets its contract: the product of two numbers of 32 bits has 64, and its upper half 32.
 use borrow.Author.Needs.{needs}
 use lib.Pow.{shr-lt}
-use Rattle.p32e2.proofs.Machine.{product-lt}
+use Rattle.rounding.proofs.Machine.{product-lt}
 use Rattle.p32e2.proofs.math.sqrt.upper.Statement.{statement}
 use Rattle.p32e2.proofs.math.sqrt.upper.Tie as tie
 

@@ -6,8 +6,8 @@ use native.Mathlib.Decide.{ℕ-discrete}
 use native.Mathlib.Omega.{arith}
 use borrow.Author.Needs.{needs}
 use Rattle.posit.proofs.LongPattern.{halfEven, even-stays, more-goes-up, tie-goes-even}
-use Rattle.p32e2.proofs.pack.half_even.Statement.{statement}
-use Rattle.p32e2.proofs.pack.half_even.Tie as tie
+use Rattle.rounding.proofs.half_even.Statement.{statement}
+use Rattle.rounding.proofs.half_even.Tie as tie
 
 more-adds : (h : ℕ) → h / 2 + h % 2 ≡ halfEven h true
 more-adds h = go (ℕ-discrete (h % 2) 0)

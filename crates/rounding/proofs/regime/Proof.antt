@@ -8,10 +8,10 @@ use lib.Pow.{pow-pos}
 use Rattle.posit.proofs.Built.{built}
 use Rattle.posit.proofs.Size.{ones-double, one-built}
 use Rattle.posit.proofs.Arith.{pow-sum}
-use Rattle.p32e2.proofs.Machine.{one-shifted}
+use Rattle.rounding.proofs.Machine.{one-shifted}
 use borrow.Author.Needs.{needs}
-use Rattle.p32e2.proofs.pack.regime.Statement.{statement}
-use Rattle.p32e2.proofs.pack.regime.Tie as tie
+use Rattle.rounding.proofs.regime.Statement.{statement}
+use Rattle.rounding.proofs.regime.Tie as tie
 
 ones-above : (m : ℕ) → m ≤ 29 → 2 ^ 32 - 1 - (2 ^ (31 - m) - 1) ≡ built true (suc m) 0 0 * 2 ^ (30 - m)
 ones-above m h =

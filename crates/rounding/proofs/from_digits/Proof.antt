@@ -6,12 +6,12 @@ use native.Mathlib.Omega.{arith}
 use lib.Dec.{ltb}
 use lib.Pow.{pow-pos, pow-mono}
 use Rattle.posit.proofs.LongPattern.{halfEven}
-use Rattle.p32e2.specs.Packed.{fromDigits}
-use Rattle.p32e2.proofs.Machine.{one-shifted, digit-is, digit-lt}
-use Rattle.p32e2.proofs.Packed.{behind-lt, within}
+use Rattle.rounding.specs.Packed.{fromDigits}
+use Rattle.rounding.proofs.Machine.{one-shifted, digit-is, digit-lt}
+use Rattle.rounding.proofs.Packed.{behind-lt, within}
 use borrow.Author.Needs.{needs}
-use Rattle.p32e2.proofs.pack.from_digits.Statement.{statement}
-use Rattle.p32e2.proofs.pack.from_digits.Tie as tie
+use Rattle.rounding.proofs.from_digits.Statement.{statement}
+use Rattle.rounding.proofs.from_digits.Tie as tie
 
 add-s : tie.Need-add-s
 add-s c = search needs

@@ -7,7 +7,7 @@ use native.Mathlib.Nat.{one-mul, mod-eq-of-lt, le-of-lt, lt-of-le-of-lt, mul-le-
 use lib.Dec.{lit<}
 use lib.Pow.{pow-pos, pow-lt, pow-add}
 use mir.Val.{boolByte}
-use Rattle.p32e2.specs.Packed.{asDigit}
+use Rattle.rounding.specs.Packed.{asDigit}
 
 pub one-shifted : (w k : ℕ) → k < w → 1 * 2 ^ k % 2 ^ w ≡ 2 ^ k
 one-shifted w k h = rw one-mul (mod-eq-of-lt (pow-lt h))

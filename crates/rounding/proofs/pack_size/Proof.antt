@@ -4,13 +4,13 @@ use mathlib.Core.Bool.{Bool}
 use Prim.Native.Nat.{ℕ, _+_, _-_, _*_, _/_, _%_, _^_, _≤_, _<_}
 use native.Mathlib.Decide.{decLt}
 use native.Mathlib.Omega.{arith}
-use Rattle.p32e2.proofs.Packed.{pack-size-is, packing, packing-tiny, packing-huge, packing-zeros, packing-ones}
+use Rattle.rounding.proofs.Packed.{pack-size-is, packing, packing-tiny, packing-huge, packing-zeros, packing-ones}
 use borrow.Author.Needs.{needs}
 use borrow.Author.Tests.{le-leb, lt-leb}
 use lib.Dec.{leb}
-use Rattle.p32e2.specs.Packed.{fromDigits}
-use Rattle.p32e2.proofs.pack.pack_size.Statement.{statement}
-use Rattle.p32e2.proofs.pack.pack_size.Tie as tie
+use Rattle.rounding.specs.Packed.{fromDigits}
+use Rattle.rounding.proofs.pack_size.Statement.{statement}
+use Rattle.rounding.proofs.pack_size.Tie as tie
 
 returns : tie.Need-returns
 returns c = let a = c .before .args in sym (pack-size-is (a .scale) (a .fraction) (a .sticky) ∙ packing-tiny (a .scale) _ (a .sticky) (omega arith))

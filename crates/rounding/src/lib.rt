@@ -5,16 +5,19 @@ ghost use Rattle.posit.specs.Exact.{whole};
 ghost use Rattle.posit.specs.Rounding.{round, signed};
 ghost use Rattle.posit.proofs.Built.{built};
 ghost use Rattle.posit.proofs.LongPattern.{halfEven};
-ghost use Rattle.p32e2.specs.Packed.{packedSize, fromDigits};
-use super::P32E2;
+ghost use Rattle.rounding.specs.Packed.{packedSize, fromDigits};
 
 // The size 2^(scale - 1024)·(1 + f), rounded, with its sign. The fraction f is the lowest 61 bits of `fraction`, and half a unit of the last one
 // more where the sticky bit is set.
-pub fn pack(negative: bool, scale: u32, fraction: u64, sticky: bool) -> P32E2
-    ensures { λ r. ⌜ r .0 ≡ signed 31 negative (round 2 31 1086 (whole (packedSize scale fraction sticky))) ⌝ }
+pub fn pack(negative: bool, scale: u32, fraction: u64, sticky: bool) -> u32
+    ensures { λ r. ⌜ r ≡ signed 31 negative (round 2 31 1086 (whole (packedSize scale fraction sticky))) ⌝ }
 {
-    let p = P32E2(pack_size(scale, fraction, sticky));
-    if negative { p.neg() } else { p }
+    let p = pack_size(scale, fraction, sticky);
+    if negative {
+        std::num::wrapping_sub_u32(0, p)
+    } else {
+        p
+    }
 }
 
 // The same without the sign. Beyond 2^120 and below 2^-120 there is one pattern each; between, the regime k is from -30 to 29.
@@ -22,10 +25,10 @@ fn pack_size(scale: u32, fraction: u64, sticky: bool) -> u32
     ensures { λ r. ⌜ r ≡ round 2 31 1086 (whole (packedSize scale fraction sticky)) ⌝ }
 {
     if scale < 904 {
-        return P32E2::MIN_POSITIVE.0;
+        return 1;
     }
     if 1144 <= scale {
-        return P32E2::MAX.0;
+        return 0x7FFF_FFFF;
     }
     let t = ((scale % 4) as u64) * 0x2000_0000_0000_0000 + fraction % 0x2000_0000_0000_0000;
     from_digits(1024 <= scale, run_less(scale), t, sticky)

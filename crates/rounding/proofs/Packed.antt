@@ -19,7 +19,7 @@ use Rattle.posit.proofs.Compare.{told-le}
 use Rattle.posit.proofs.Rounding.{at-none, at-last}
 use Rattle.posit.proofs.LongPattern.{halfEven, clamped}
 use Rattle.posit.proofs.Packing.{Spans, packed, built-kept, built-rest, spare-kept, spare-rest, inside}
-use Rattle.p32e2.specs.Packed.{asDigit, packedSize, fromDigits}
+use Rattle.rounding.specs.Packed.{asDigit, packedSize, fromDigits}
 
 -- a run and its end, as a number
 prefix-bounds : (o : Bool) (m : ℕ) → (1 ≤ built o (suc m) 0 0) × (built o (suc m) 0 0 + 2 ≤ 2 * 2 ^ suc m)
