@@ -1,8 +1,2 @@
--- What belongs to no one function: the values of the constants, the machine's operations, what `pack` answers, and the ratio of two sizes.
+-- What belongs to no one function: the values of the constants.
 mod Constants
-pub mod Machine
-pub mod Packed
-pub mod Divided
-pub mod Exactly
-pub mod Wide
-pub mod Added

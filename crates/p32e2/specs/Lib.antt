@@ -1,6 +1,2 @@
--- What the constants and the answers of this crate are.
+-- What the constants are.
 pub mod Constants
-pub mod Packed
-pub mod Scaled
-pub mod Sums
-pub mod Unpacked

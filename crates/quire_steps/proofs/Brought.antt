@@ -16,7 +16,7 @@ use Rattle.posit.specs.Accumulator.{State, notReal, total, ofPosit, ofProduct}
 use Rattle.posit.proofs.Signs.{withSign, product-signs}
 use Rattle.posit.proofs.Size.{size-unit}
 use Rattle.posit.proofs.Parts.{Tells, unsigned-positive, value-real}
-use Rattle.p32e2.proofs.Machine.{product-lt}
+use Rattle.rounding.proofs.Machine.{product-lt}
 use Rattle.quire_steps.specs.Operand.{Factored, IsFactor}
 
 -- ---- factors

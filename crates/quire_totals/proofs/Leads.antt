@@ -8,7 +8,6 @@ use native.Mathlib.Nat.{le-of-eq, add-zero, zero-mul, mul-one, mul-comm, mul-pos
 use native.Mathlib.Decide.{decLt}
 use native.Mathlib.Omega.{arith}
 use borrow.Author.Tests.{lt-ltb, le-ltb}
-use lib.Count.{leadingZeros, leading-top}
 use lib.Dec.{ltb, lit<, lit≤}
 use lib.ListN.{length, getD, drop, List·getD-eq-default}
 use lib.Pow.{pow-pos, pow-add}
@@ -76,16 +75,6 @@ module _ (K Z P h y rest : ℕ) (hh : h < K) (hy : y < K * Z) (hr : rest < P) (p
           rw (none, behind, zero-mul P, zero-mul Z)
 
 -- ---- words
-
--- a word that is not 0, moved up by its leading zeros
-pub normalised : (n : ℕ) → 0 < n → n < 2 ^ 64 → (leadingZeros 64 n < 64) × (2 ^ 63 ≤ n * 2 ^ leadingZeros 64 n) × (n * 2 ^ leadingZeros 64 n < 2 ^ 64)
-normalised n p h =
-    let t = leading-top 64 n p h in
-    let z = leadingZeros 64 n in (
-      omega (arith, t .1),
-      omega (arith, mul-le-mul-right (2 ^ z) (t .2), pow-sum (t .0) z 63 (omega (arith, t .1))),
-      omega (arith, mul-lt-mul-of-pos-right (t .3) (pow-pos z), pow-sum (suc (t .0)) z 64 (omega (arith, t .1))),
-    )
 
 module _ (h y z : ℕ) (hy : y < 2 ^ 64) (hz : z < 64) (top : 2 ^ 63 ≤ h * 2 ^ z) (word : h * 2 ^ z < 2 ^ 64) where
   factors : 2 ^ (64 - z) * 2 ^ z ≡ 2 ^ 64

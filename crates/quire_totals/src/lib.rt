@@ -12,12 +12,12 @@ ghost use Rattle.posit.proofs.Signs.{withSign};
 ghost use Rattle.quire_words.specs.Words.{wide};
 ghost use Rattle.quire_totals.specs.Leading.{Leads};
 use p32e2::P32E2;
-use p32e2::pack::pack;
 use quire_steps::sub_posit;
 use quire_words::NAR_WORD;
 use quire_words::any_from;
 use quire_words::is_alone;
 use quire_words::negative_of;
+use rounding::pack;
 
 pub fn to_posit(q: [u64; 8]) -> P32E2
     ensures { λ r. ⌜ r .0 ≡ toPosit 2 31 (fromWords 512 q) ⌝ }
@@ -29,7 +29,7 @@ pub fn to_posit(q: [u64; 8]) -> P32E2
         return P32E2::NAR;
     }
     let negative = NAR_WORD <= q[0];
-    round_size(negative, size_of(q, negative))
+    P32E2(round_size(negative, size_of(q, negative)))
 }
 
 // A total in parts: each the rounding of what the parts before it leave.
@@ -75,9 +75,9 @@ fn size_of(q: [u64; 8], negative: bool) -> [u64; 8]
 }
 
 // The number w, which is not 0, rounded, with its sign.
-fn round_size(negative: bool, w: [u64; 8]) -> P32E2
+fn round_size(negative: bool, w: [u64; 8]) -> u32
     requires { ⌜ 0 < wide w ⌝ }
-    ensures { λ r. ⌜ r .0 ≡ rounded 2 31 240 (withSign negative (wide w)) ⌝ }
+    ensures { λ r. ⌜ r ≡ rounded 2 31 240 (withSign negative (wide w)) ⌝ }
 {
     let x = first_digits(w);
     pack(

@@ -14,9 +14,9 @@ use Rattle.posit.specs.Rounding.{round, rounded, signed}
 use Rattle.posit.proofs.Signs.{withSign, scaled-sign}
 use Rattle.posit.proofs.Finer.{rounded-finer}
 use Rattle.posit.proofs.Value.{rounded-signed}
-use Rattle.p32e2.specs.Packed.{packedSize}
-use Rattle.p32e2.proofs.Machine.{digit-is}
-use Rattle.p32e2.proofs.Wide.{wide-rounds}
+use Rattle.rounding.specs.Packed.{packedSize}
+use Rattle.rounding.proofs.Machine.{digit-is}
+use Rattle.exact_terms.proofs.Wide.{wide-rounds}
 use Rattle.quire_words.specs.Words.{wide}
 use Rattle.quire_totals.specs.Leading.{Leads}
 use Rattle.quire_words.proofs.Places.{digit-le}

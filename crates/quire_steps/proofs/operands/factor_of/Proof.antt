@@ -14,9 +14,9 @@ use mir.Val.{SFits, Fits, toZ, ofZ}
 use mir.Facts.{toZ-ofZ}
 use Rattle.posit.specs.Pattern.{raised, parts}
 use Rattle.posit.proofs.Parts.{Tells, parts-tell}
-use Rattle.p32e2.specs.Unpacked.{meaning}
-use Rattle.p32e2.specs.declared.Unpacked.{Unpacked}
-use Rattle.p32e2.specs.declared.Unpacked.the-variants.{Real}
+use Rattle.unpacking.specs.Unpacked.{meaning}
+use Rattle.unpacking.specs.declared.Unpacked.{Unpacked}
+use Rattle.unpacking.specs.declared.Unpacked.the-variants.{Real}
 use Rattle.quire_steps.specs.Operand.{IsFactor}
 use Rattle.quire_steps.proofs.Brought.{zero-factor, nar-factor, real-factor}
 use Rattle.quire_steps.proofs.operands.factor_of.Statement.{statement}

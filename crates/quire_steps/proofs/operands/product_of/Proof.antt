@@ -1,7 +1,7 @@
 -- `product_of` meets its contract, by `product-brought`: below 0 where just one of the two is.
 use native.Mathlib.Omega.{arith}
 use borrow.Author.Needs.{needs}
-use Rattle.p32e2.proofs.Machine.{differ-is}
+use Rattle.rounding.proofs.Machine.{differ-is}
 use Rattle.quire_steps.proofs.Brought.{product-below, product-brought}
 use Rattle.quire_steps.proofs.operands.product_of.Statement.{statement}
 use Rattle.quire_steps.proofs.operands.product_of.Tie as tie

@@ -1,0 +1,2 @@
+-- What belongs to no one function: the ratio of two sizes.
+pub mod Divided

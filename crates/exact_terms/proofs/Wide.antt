@@ -1,0 +1,90 @@
+-- A number of up to 64 binary digits, moved up by its z leading zeros and down by two, is a significand for `pack`: what the two lowest digits hold goes into the
+-- sticky bit. Nothing is moved up further than by two where something lies above the number already.
+use mathlib.Core.Path.{_≡_, refl, sym, ap, _∙_}
+use mathlib.Core.Bool.{Bool, true, false}
+use Prim.Native.Nat.{ℕ, zero, suc, _+_, _-_, _*_, _/_, _%_, _^_, _≤_, _<_}
+use native.Mathlib.Nat.{mul-one, le-trans, lt-of-lt-of-le, lt-of-le-of-lt, mul-le-mul-left, mul-le-mul-right, mul-lt-mul-of-pos-right}
+use native.Mathlib.Decide.{decLt}
+use native.Mathlib.Omega.{arith}
+use borrow.Author.Tests.{lt-ltb, ltb-false}
+use lib.Count.{leadingZeros, leading-top}
+use lib.Dec.{ltb, lit≤}
+use lib.Pow.{pow-pos, pow-mono}
+use Rattle.posit.specs.Exact.{Exact, whole, Sound, bound, told, above, AtLeast, Under}
+use Rattle.posit.specs.Rounding.{round}
+use Rattle.posit.proofs.Arith.{pow-sum}
+use Rattle.posit.proofs.Compare.{told-lt, told-le}
+use Rattle.rounding.specs.Packed.{asDigit, packedSize}
+use Rattle.exact_terms.specs.Sums.{Near}
+use Rattle.rounding.proofs.Packed.{significand-stands-for}
+
+-- a word that is not 0, moved up by its leading zeros
+pub normalised : (n : ℕ) → 0 < n → n < 2 ^ 64 → (leadingZeros 64 n < 64) × (2 ^ 63 ≤ n * 2 ^ leadingZeros 64 n) × (n * 2 ^ leadingZeros 64 n < 2 ^ 64)
+normalised n p h =
+    let t = leading-top 64 n p h in
+    let z = leadingZeros 64 n in (
+      omega (arith, t .1),
+      omega (arith, mul-le-mul-right (2 ^ z) (t .2), pow-sum (t .0) z 63 (omega (arith, t .1))),
+      omega (arith, mul-lt-mul-of-pos-right (t .3) (pow-pos z), pow-sum (suc (t .0)) z 64 (omega (arith, t .1))),
+    )
+
+digit-seen : (s : Bool) → s ≡ ltb 0 (0 + asDigit s)
+digit-seen true = refl
+digit-seen false = refl
+
+-- by at most two digits: the next number is no further than the next significand
+stepped : (n z : ℕ) → z ≤ 2 → suc n * 2 ^ z ≤ 4 * suc (n * 2 ^ z / 4)
+stepped n zero h = omega arith
+stepped n (suc zero) h = omega arith
+stepped n (suc (suc zero)) h = omega arith
+stepped n (suc (suc (suc z))) h = absurd (omega arith)
+
+two-at-most : (n z : ℕ) → 2 ^ 61 ≤ n → n * 2 ^ z < 2 ^ 64 → z ≤ 2
+two-at-most n z h k = go (decLt 2 z)
+  where
+    go : Dec (2 < z) → z ≤ 2
+    go (yes l) = absurd (omega (arith, le-trans (mul-le-mul-left (2 ^ 61) (pow-mono {i = 3} {j = z} l)) (mul-le-mul-right (2 ^ z) h)))
+    go (no l) = omega arith
+
+-- n with its leading one moved to bit 63, and four times less
+module _ (n z c : ℕ) (top : 2 ^ 63 ≤ n * 2 ^ z) (word : n * 2 ^ z < 2 ^ 64) (low : z ≤ c) where
+  level : (k : ℕ) → k * 2 ^ c ≡ k * 2 ^ z * 2 ^ (c - z)
+  level k = omega (arith, ap (λ (p : ℕ). k * p) (pow-sum z (c - z) c (omega arith)))
+
+  quarter : (k : ℕ) → k * 2 ^ (c + 2 - z) ≡ 4 * k * 2 ^ (c - z)
+  quarter k = omega (arith, ap (λ (p : ℕ). k * p) (pow-sum 2 (c - z) (c + 2 - z) (omega arith)))
+
+  module _ (x : Exact) (sound : Sound x) (s : Bool) (near : Near x n c) (sticky : above x (n * 2 ^ c) ≡ s) (wide : s ≡ true → 2 ^ 61 ≤ n) where
+    at-least : AtLeast x (n * 2 ^ z / 4 * 2 ^ (c + 2 - z))
+    at-least =
+        le-trans
+        (told-le x sound (rw (quarter (n * 2 ^ z / 4), level n) (mul-le-mul-right (2 ^ (c - z)) (omega arith))))
+        (near .low)
+
+    under : (t : Bool) → s ≡ t → Under x (suc (n * 2 ^ z / 4) * 2 ^ (c + 2 - z))
+    under false e =
+        lt-of-le-of-lt (ltb-false (told x (n * 2 ^ c)) (bound x) (sticky ∙ e))
+        (told-lt x sound (rw (quarter (suc (n * 2 ^ z / 4)), level n) (mul-lt-mul-of-pos-right (omega arith) (pow-pos (c - z)))))
+    under true e =
+        lt-of-lt-of-le (near .high)
+        (told-le x sound (rw (quarter (suc (n * 2 ^ z / 4)), level (suc n)) (mul-le-mul-right (2 ^ (c - z)) (stepped n z (two-at-most n z (wide e) word)))))
+
+    seen : above x (n * 2 ^ z / 4 * 2 ^ (c + 2 - z)) ≡ ltb 0 (n * 2 ^ z % 4 + asDigit s)
+    seen = go (decLt 0 (n * 2 ^ z % 4))
+      where
+        go : Dec (0 < n * 2 ^ z % 4) → above x (n * 2 ^ z / 4 * 2 ^ (c + 2 - z)) ≡ ltb 0 (n * 2 ^ z % 4 + asDigit s)
+        go (yes h) =
+            let less : n * 2 ^ z / 4 * 2 ^ (c + 2 - z) < n * 2 ^ c =
+            rw (quarter (n * 2 ^ z / 4), level n) (mul-lt-mul-of-pos-right (omega arith) (pow-pos (c - z))) in
+            lt-ltb _ (bound x) (lt-of-lt-of-le (told-lt x sound less) (near .low)) ∙ sym (lt-ltb 0 (n * 2 ^ z % 4 + asDigit s) (omega arith))
+        go (no h) =
+            let same : n * 2 ^ z / 4 * 2 ^ (c + 2 - z) ≡ n * 2 ^ c =
+            quarter (n * 2 ^ z / 4) ∙ ap (λ (k : ℕ). k * 2 ^ (c - z)) (omega arith) ∙ sym (level n) in
+            let none : n * 2 ^ z % 4 ≡ 0 = omega arith in
+            ap (above x) same ∙ sticky ∙ digit-seen s ∙ ap (λ (k : ℕ). ltb 0 (k + asDigit s)) (sym none)
+
+    pub wide-rounds : round 2 31 1086 x ≡ round 2 31 1086 (whole (packedSize (c + 1 - z) (n * 2 ^ z / 4) (ltb 0 (n * 2 ^ z % 4 + asDigit s))))
+    wide-rounds =
+        significand-stands-for x sound 61 (lit≤ tt) (lit≤ tt) (c + 1 - z) (n * 2 ^ z / 4) (c + 2 - z) (omega arith) (omega arith) (omega arith)
+        at-least (under s refl) (ltb 0 (n * 2 ^ z % 4 + asDigit s)) seen
+        ∙ ap (λ (g : ℕ). round 2 31 1086 (whole (packedSize (c + 1 - z) g (ltb 0 (n * 2 ^ z % 4 + asDigit s))))) (mul-one (n * 2 ^ z / 4))

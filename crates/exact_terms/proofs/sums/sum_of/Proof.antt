@@ -1,0 +1,56 @@
+-- `sum_of` meets its contract: the greater of the terms is the first, and the order does not change their sum.
+use mathlib.Core.Path.{_≡_, refl, sym, ap, ap₂, subst₂, _∙_}
+use mathlib.Core.Bool.{Bool, true, false, cond}
+use Prim.Native.Nat.{_≤_}
+use native.Mathlib.Nat.{le-of-lt}
+use borrow.Author.Needs.{needs}
+use borrow.Author.Tests.{ltb-true, ltb-false}
+use lib.Dec.{ltb}
+use lib.IntN.{_+ℤ_, +ℤ-comm}
+use Rattle.posit.specs.Rounding.{rounded}
+use Rattle.exact_terms.specs.declared.terms.Term.{Term}
+use Rattle.exact_terms.specs.Terms.{Normal}
+use Rattle.exact_terms.specs.Sums.{magnitude, number}
+use Rattle.exact_terms.proofs.sums.sum_of.Statement.{statement}
+use Rattle.exact_terms.proofs.sums.sum_of.Tie as tie
+
+-- what `sum_ordered` asks
+abbrev Ordered : Term → Term → Type 0
+Ordered high low = Normal (high .scale) (high .significand) × Normal (low .scale) (low .significand) × (magnitude low ≤ magnitude high)
+
+module _ (x y : Term) where
+  ordered : Normal (x .scale) (x .significand) → Normal (y .scale) (y .significand) → (b : Bool) → b ≡ ltb (magnitude x) (magnitude y) → Ordered (cond b y x) (cond b x y)
+  ordered p q true e = (q, p, le-of-lt (ltb-true (magnitude x) (magnitude y) (sym e)))
+  ordered p q false e = (p, q, ltb-false (magnitude x) (magnitude y) (sym e))
+
+  same-sum : (b : Bool) → number (cond b y x) +ℤ number (cond b x y) ≡ number x +ℤ number y
+  same-sum true = +ℤ-comm (number y) (number x)
+  same-sum false = refl
+
+below-requires : tie.Need-below-requires
+below-requires c κs = search needs
+
+chosen-requires : tie.Need-chosen-requires
+chosen-requires c κs = search needs
+
+chosen-requires-2 : tie.Need-chosen-requires-2
+chosen-requires-2 c κs = search needs
+
+sum-ordered-requires : tie.Need-sum-ordered-requires
+sum-ordered-requires c κs =
+    let k = c .before .before .before in
+    let x = k .args .x in
+    let y = k .args .y in
+    subst₂ Ordered (sym (c .before .chosen .ensures)) (sym (c .chosen2 .ensures)) (ordered x y (k .pre .0) (k .pre .1) _ (c .before .before .below .ensures))
+
+returns : tie.Need-returns
+returns c =
+    let k = c .before .before .before .before in
+    let x = k .args .x in
+    let y = k .args .y in
+    c .sum-ordered .ensures
+    ∙ ap (rounded 2 31 1086)
+    (ap₂ (λ (h l : Term). number h +ℤ number l) (c .before .before .chosen .ensures) (c .before .chosen2 .ensures) ∙ same-sum x y (c .before .before .before .below .result))
+
+pub sum-of-spec : {M : Type 1} → statement M
+sum-of-spec = tie.close (tie.spec below-requires chosen-requires chosen-requires-2 sum-ordered-requires returns)

@@ -1,0 +1,3 @@
+-- What belongs to no one function: the machine's operations, and what `pack` answers.
+pub mod Machine
+pub mod Packed

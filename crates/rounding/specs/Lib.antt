@@ -1,0 +1,2 @@
+-- What the arguments of `pack` mean.
+pub mod Packed

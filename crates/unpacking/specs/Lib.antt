@@ -1,0 +1,3 @@
+-- What the answers of `unpack` and `scaled_of` mean.
+pub mod Scaled
+pub mod Unpacked
