@@ -24,7 +24,7 @@ sub-one-mul B P p =
     sym (ap (λ (n : ℕ). n * P) e ∙ add-mul (B - 1 - 0) 1 P ∙ omega arith)
 
 -- a digit v written at i takes the place of the one that stood there
-set-adds : (B : ℕ) (ws : List ℕ) (i v : ℕ) → i < length ws
+pub set-adds : (B : ℕ) (ws : List ℕ) (i v : ℕ) → i < length ws
     → number B (set ws i v) + getD ws i 0 * B ^ (length ws - suc i) ≡ number B ws + v * B ^ (length ws - suc i)
 unfolding number
 set-adds B [] i v h = absurd (not-suc-le-zero h)

@@ -35,7 +35,7 @@ nar-spelt = refl
 
 -- ---- the clear state
 
-abbrev zeroWords : List ℕ
+abbrev pub zeroWords : List ℕ
 zeroWords = 0 ∷ 0 ∷ 0 ∷ 0 ∷ 0 ∷ 0 ∷ 0 ∷ 0 ∷ []
 
 pub clear-spelt : zeroWords ≡ words 512 clear
@@ -149,7 +149,7 @@ kept-held bits t = go (decLt (natAbs t) (2 ^ (bits - 1)))
     go (yes h) = rw (lt-ltb (natAbs t) (2 ^ (bits - 1)) h) h
     go (no h) = rw (le-ltb (natAbs t) (2 ^ (bits - 1)) (omega arith)) tt
 
-plus-held : (q x : State) → Held 512 (plus 512 q x)
+pub plus-held : (q x : State) → Held 512 (plus 512 q x)
 unfolding plus
 plus-held notReal x = tt
 plus-held (total t) notReal = tt

@@ -1,0 +1,4 @@
+-- The laws that the functions' proofs use.
+pub mod Spelt
+pub mod Summed
+pub mod Refused

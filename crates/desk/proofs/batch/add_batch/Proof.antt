@@ -1,0 +1,39 @@
+-- `add_batch` meets its contract: each refusal gives its number and the words back, and else the pairs are added up.
+use mathlib.Core.Path.{_≡_, sym, ap, _∙_}
+use mathlib.Core.List.{List}
+use Prim.Native.Nat.{ℕ, _^_}
+use native.Mathlib.Omega.{arith}
+use borrow.Author.Needs.{needs}
+use lib.Dec.{lit<}
+use Rattle.posit.specs.Accumulator.{words, fromWords}
+use Rattle.desk.proofs.Refused.{unequal, too-many, no-refusal, batch-refused, batch-done}
+use Rattle.desk.proofs.Spelt.{words-back}
+use Rattle.desk.proofs.batch.add_batch.Statement.{statement}
+use Rattle.desk.proofs.batch.add_batch.Tie as tie
+
+returns : tie.Need-returns
+returns c =
+    let k = c .before .before .before in
+    let a = k .args in
+    let no = unequal (a .a .now) (a .b .now) (c .if1 .taken) in
+    (sym no, words-back (a .q) (k .good .0) ∙ ap (words 512) (sym (batch-refused (a .a .now) (a .b .now) (fromWords 512 (a .q)) 3 no (λ z. omega arith))))
+
+returns-2 : tie.Need-returns-2
+returns-2 c =
+    let k = c .before .before .before .before in
+    let a = k .args in
+    let no = too-many (a .a .now) (a .b .now) (omega arith) (c .if2 .taken) in
+    (sym no, words-back (a .q) (k .good .0) ∙ ap (words 512) (sym (batch-refused (a .a .now) (a .b .now) (fromWords 512 (a .q)) 4 no (λ z. omega arith))))
+
+sum-of-requires : tie.Need-sum-of-requires
+sum-of-requires c κs = search needs
+
+returns-3 : tie.Need-returns-3
+returns-3 c =
+    let k = c .before .before .before .before .before in
+    let a = k .args in
+    let no = no-refusal (a .a .now) (a .b .now) (omega arith) (omega arith) in
+    (sym no, c .sum-of .ensures ∙ ap (words 512) (sym (batch-done (a .a .now) (a .b .now) (fromWords 512 (a .q)) no)))
+
+pub add-batch-spec : {M : Type 1} → statement M
+add-batch-spec = tie.close (tie.spec returns returns-2 sum-of-requires returns-3)

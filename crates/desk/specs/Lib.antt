@@ -1,0 +1,3 @@
+-- What the answers of the desk mean.
+pub mod Answers
+pub mod Bytes

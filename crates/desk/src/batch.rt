@@ -1,0 +1,60 @@
+// A batch: the exact product of each pair of two lists, added from the front. The range is judged after each pair.
+ghost use mathlib.Core.Path.{_≡_};
+ghost use lib.ListN.{length};
+ghost use Rattle.posit.specs.Accumulator.{batch, words, fromWords};
+ghost use Rattle.posit.specs.Desk.{batchRefusal, afterBatch};
+ghost use Rattle.desk.specs.Answers.{batchNumber};
+use p32e2::P32E2;
+use quire_steps::add_product;
+
+// The greatest number of pairs that a batch may have.
+pub const PAIR_LIMIT: usize = 16384;
+
+pub enum BatchAnswer {
+    Added,
+    UnequalLists,
+    TooManyPairs,
+}
+
+// The words after the batch, or those that were given where it was refused.
+pub struct BatchAdded {
+    pub words: [u64; 8],
+    pub answer: BatchAnswer,
+}
+
+pub fn add_batch(q: [u64; 8], a: &[u32], b: &[u32]) -> BatchAdded
+    ensures { λ r. ⌜ (batchNumber (r .answer) ≡ batchRefusal (now (a .entry)) (now (b .entry))) × (r .words ≡ words 512 (afterBatch 2 31 512 (fromWords 512 q) (now (a .entry)) (now (b .entry)))) ⌝ }
+{
+    if a.len() != b.len() {
+        return BatchAdded {
+            words: q,
+            answer: BatchAnswer::UnequalLists,
+        };
+    }
+    if PAIR_LIMIT < a.len() {
+        return BatchAdded {
+            words: q,
+            answer: BatchAnswer::TooManyPairs,
+        };
+    }
+    let words = sum_of(q, a, b);
+    BatchAdded {
+        words,
+        answer: BatchAnswer::Added,
+    }
+}
+
+// The products of lists of one length, added up.
+pub(crate) fn sum_of(q: [u64; 8], a: &[u32], b: &[u32]) -> [u64; 8]
+    requires { ⌜ length (now a) ≡ length (now b) ⌝ }
+    ensures { λ r. ⌜ r ≡ words 512 (batch 2 31 512 (fromWords 512 q) (now (a .entry)) (now (b .entry))) ⌝ }
+{
+    let mut r = q;
+    let mut i: usize = 0;
+    while i < a.len() {
+        let s = add_product(r, P32E2::from_bits(a[i]), P32E2::from_bits(b[i]));
+        r = s;
+        i += 1;
+    }
+    r
+}
