@@ -16,6 +16,19 @@ pub enum BatchAnswer {
     TooManyPairs,
 }
 
+impl BatchAnswer {
+    // The number of the refusal, 0 for none.
+    pub fn number(self) -> u32
+        ensures { λ r. ⌜ r ≡ batchNumber self ⌝ }
+    {
+        match self {
+            BatchAnswer::Added => 0,
+            BatchAnswer::UnequalLists => 3,
+            BatchAnswer::TooManyPairs => 4,
+        }
+    }
+}
+
 // The words after the batch, or those that were given where it was refused.
 pub struct BatchAdded {
     pub words: [u64; 8],

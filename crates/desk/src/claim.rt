@@ -16,6 +16,21 @@ pub enum ClaimAnswer {
     Differs,
 }
 
+impl ClaimAnswer {
+    // The number of the refusal, 0 for a claim that is right.
+    pub fn number(self) -> u32
+        ensures { λ r. ⌜ r ≡ claimNumber self ⌝ }
+    {
+        match self {
+            ClaimAnswer::Right => 0,
+            ClaimAnswer::UnequalLists => 3,
+            ClaimAnswer::TooManyPairs => 4,
+            ClaimAnswer::WrongLength => 1,
+            ClaimAnswer::Differs => 5,
+        }
+    }
+}
+
 pub fn check_claim(a: &[u32], b: &[u32], claim: &[u8]) -> ClaimAnswer
     ensures { λ r. ⌜ claimNumber r ≡ claimRefusal 2 31 512 (now (a .entry)) (now (b .entry)) (now (claim .entry)) ⌝ }
 {

@@ -17,9 +17,32 @@ pub enum WriteAnswer {
     BufferTooShort,
 }
 
+impl WriteAnswer {
+    // The number of the refusal, 0 for none.
+    pub fn number(self) -> u32
+        ensures { λ r. ⌜ r ≡ writeNumber self ⌝ }
+    {
+        match self {
+            WriteAnswer::Written => 0,
+            WriteAnswer::BufferTooShort => 2,
+        }
+    }
+}
+
 pub enum ReadAnswer {
     Read,
     WrongLength,
+}
+
+impl ReadAnswer {
+    pub fn number(self) -> u32
+        ensures { λ r. ⌜ r ≡ readNumber self ⌝ }
+    {
+        match self {
+            ReadAnswer::Read => 0,
+            ReadAnswer::WrongLength => 1,
+        }
+    }
 }
 
 // The words that were read, or those that were given where the reading was refused.
