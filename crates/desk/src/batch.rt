@@ -39,22 +39,18 @@ pub fn add_batch(q: [u64; 8], a: &[u32], b: &[u32]) -> BatchAdded
     ensures { λ r. ⌜ (batchNumber (r .answer) ≡ batchRefusal (now (a .entry)) (now (b .entry))) × (r .words ≡ words 512 (afterBatch 2 31 512 (fromWords 512 q) (now (a .entry)) (now (b .entry)))) ⌝ }
 {
     if a.len() != b.len() {
-        return BatchAdded {
-            words: q,
-            answer: BatchAnswer::UnequalLists,
-        };
+        return answered(q, BatchAnswer::UnequalLists);
     }
     if PAIR_LIMIT < a.len() {
-        return BatchAdded {
-            words: q,
-            answer: BatchAnswer::TooManyPairs,
-        };
+        return answered(q, BatchAnswer::TooManyPairs);
     }
-    let words = sum_of(q, a, b);
-    BatchAdded {
-        words,
-        answer: BatchAnswer::Added,
-    }
+    answered(sum_of(q, a, b), BatchAnswer::Added)
+}
+
+fn answered(words: [u64; 8], answer: BatchAnswer) -> BatchAdded
+    ensures { λ r. ⌜ (r .words ≡ words) × (batchNumber (r .answer) ≡ batchNumber answer) ⌝ }
+{
+    BatchAdded { words, answer }
 }
 
 // The products of lists of one length, added up.

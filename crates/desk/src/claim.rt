@@ -44,11 +44,10 @@ pub fn check_claim(a: &[u32], b: &[u32], claim: &[u8]) -> ClaimAnswer
         return ClaimAnswer::WrongLength;
     }
     let rebuilt = image_of(sum_of([0; 8], a, b));
-    if is_same(rebuilt, claim) {
-        ClaimAnswer::Right
-    } else {
-        ClaimAnswer::Differs
+    if !is_same(rebuilt, claim) {
+        return ClaimAnswer::Differs;
     }
+    ClaimAnswer::Right
 }
 
 // Every byte is compared, whatever the first ones say.

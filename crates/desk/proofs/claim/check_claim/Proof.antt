@@ -1,6 +1,6 @@
 -- `check_claim` meets its contract: the refusals in their order, and then the comparison with the image that was rebuilt.
-use mathlib.Core.Path.{_≡_, sym, ap, _∙_}
-use mathlib.Core.Bool.{Bool, true, false}
+use mathlib.Core.Path.{_≡_, refl, sym, ap, _∙_}
+use mathlib.Core.Bool.{Bool, true, false, not}
 use mathlib.Core.List.{List}
 use Prim.Native.Nat.{ℕ}
 use native.Mathlib.Omega.{arith}
@@ -17,6 +17,10 @@ use Rattle.desk.proofs.claim.check_claim.Tie as tie
 compared : (a b claim ws bs : List ℕ) (r t : Bool) → ws ≡ words 512 (batch 2 31 512 (fromWords 512 zeroWords) a b) → bs ≡ image 512 (fromWords 512 ws) → r ≡ same bs claim → r ≡ t
     → same (image 512 (batch 2 31 512 clear a b)) claim ≡ t
 compared a b claim ws bs r t e f g h = ap (λ (l : List ℕ). same l claim) (sym (f ∙ ap (image 512) (rebuilt a b ws e))) ∙ sym g ∙ h
+
+twice : (b : Bool) → b ≡ not (not b)
+twice true = refl
+twice false = refl
 
 returns : tie.Need-returns
 returns c =
@@ -46,15 +50,15 @@ returns-4 : tie.Need-returns-4
 returns-4 c =
     let k = c .before .before .before .before .before .before .before .before .before .before in
     let a = k .args in
-    let found = compared (a .a .now) (a .b .now) (a .claim .now) _ _ _ true (c .before .before .before .sum-of .ensures) (c .before .before .image-of .ensures) (c .before .is-same .ensures) (c .if4 .taken) in
-    sym (claim-compared (a .a .now) (a .b .now) (a .claim .now) true (no-refusal (a .a .now) (a .b .now) (omega arith) (omega arith)) (omega arith) found)
+    let found = compared (a .a .now) (a .b .now) (a .claim .now) _ _ _ false (c .before .before .before .sum-of .ensures) (c .before .before .image-of .ensures) (c .before .is-same .ensures) (twice _ ∙ ap not (c .if4 .taken)) in
+    sym (claim-compared (a .a .now) (a .b .now) (a .claim .now) false (no-refusal (a .a .now) (a .b .now) (omega arith) (omega arith)) (omega arith) found)
 
 returns-5 : tie.Need-returns-5
 returns-5 c =
     let k = c .before .before .before .before .before .before .before .before .before .before in
     let a = k .args in
-    let found = compared (a .a .now) (a .b .now) (a .claim .now) _ _ _ false (c .before .before .before .sum-of .ensures) (c .before .before .image-of .ensures) (c .before .is-same .ensures) (c .if4 .left) in
-    sym (claim-compared (a .a .now) (a .b .now) (a .claim .now) false (no-refusal (a .a .now) (a .b .now) (omega arith) (omega arith)) (omega arith) found)
+    let found = compared (a .a .now) (a .b .now) (a .claim .now) _ _ _ true (c .before .before .before .sum-of .ensures) (c .before .before .image-of .ensures) (c .before .is-same .ensures) (twice _ ∙ ap not (c .if4 .left)) in
+    sym (claim-compared (a .a .now) (a .b .now) (a .claim .now) true (no-refusal (a .a .now) (a .b .now) (omega arith) (omega arith)) (omega arith) found)
 
 pub check-claim-spec : {M : Type 1} → statement M
 check-claim-spec =
