@@ -1,5 +1,9 @@
 pub mod Solid
+pub mod Arg
+pub mod Locals
 pub mod Args
+pub mod Reading
+pub mod Again
 pub mod Frame
 pub mod Field
 pub mod Core

@@ -14,5 +14,5 @@ use Rattle.quire32.proofs.Q32E2.clear.Code as code
 pub clear-spec : {M : Type 1} → stated.statement M
 unfolding code.routine
 clear-spec 𝓤 H 𝓜 𝓖 𝓡 =
-    writes without quire-holds [] (λ _ r. r ≡ words 512 clear) 𝓤
+    writes 0 without quire-holds [] (λ _ r _. r ≡ words 512 clear) 𝓤
     code.env key.name core.name core.routine refl H 𝓜 𝓖 𝓡 (core-thm.met 𝓤 H 𝓜 𝓖 𝓡) (code.unfolded 𝓤 H 𝓜 𝓡)

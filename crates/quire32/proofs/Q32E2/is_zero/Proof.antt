@@ -15,5 +15,5 @@ use Rattle.quire32.proofs.Q32E2.is_zero.Code as code
 pub is-zero-spec : {M : Type 1} → stated.statement M
 unfolding code.routine
 is-zero-spec 𝓤 H 𝓜 𝓖 𝓡 =
-    answers with-field quire-holds [] boolean (λ (ws, _) r. r ≡ isClear (fromWords 512 ws)) 𝓤
+    answers 0 with-field quire-holds [] boolean (λ (ws, _) r _. r ≡ isClear (fromWords 512 ws)) 𝓤
     code.env key.name core.name core.routine refl H 𝓜 𝓖 𝓡 (core-thm.met 𝓤 H 𝓜 𝓖 𝓡) (code.unfolded 𝓤 H 𝓜 𝓡)

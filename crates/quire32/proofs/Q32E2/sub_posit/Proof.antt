@@ -2,6 +2,7 @@
 use mathlib.Core.Path.{_≡_, refl}
 use mathlib.Core.List.{[], _∷_}
 use Rattle.posit.specs.Accumulator.{ofPosit, minus, words, fromWords}
+use Rattle.lend.proofs.Arg.{value}
 use Rattle.lend.proofs.Core.{with-field}
 use Rattle.lend.proofs.Lent.{writes}
 use Rattle.quire32.proofs.Solids.{posit, quire-holds}
@@ -14,5 +15,5 @@ use Rattle.quire32.proofs.Q32E2.sub_posit.Code as code
 pub sub-posit-spec : {M : Type 1} → stated.statement M
 unfolding code.routine
 sub-posit-spec 𝓤 H 𝓜 𝓖 𝓡 =
-    writes with-field quire-holds (posit ∷ []) (λ (ws, (p, _)) r. r ≡ words 512 (minus 512 (fromWords 512 ws) (ofPosit 2 31 (p .0)))) 𝓤
+    writes 0 with-field quire-holds (value posit ∷ []) (λ (ws, (p, _)) r _. r ≡ words 512 (minus 512 (fromWords 512 ws) (ofPosit 2 31 (p .0)))) 𝓤
     code.env key.name core.name core.routine refl H 𝓜 𝓖 𝓡 (core-thm.met 𝓤 H 𝓜 𝓖 𝓡) (code.unfolded 𝓤 H 𝓜 𝓡)

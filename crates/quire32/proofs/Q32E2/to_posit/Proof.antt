@@ -14,5 +14,5 @@ use Rattle.quire32.proofs.Q32E2.to_posit.Code as code
 pub to-posit-spec : {M : Type 1} → stated.statement M
 unfolding code.routine
 to-posit-spec 𝓤 H 𝓜 𝓖 𝓡 =
-    answers with-field quire-holds [] posit (λ (ws, _) r. r .0 ≡ toPosit 2 31 (fromWords 512 ws)) 𝓤
+    answers 0 with-field quire-holds [] posit (λ (ws, _) r _. r .0 ≡ toPosit 2 31 (fromWords 512 ws)) 𝓤
     code.env key.name core.name core.routine refl H 𝓜 𝓖 𝓡 (core-thm.met 𝓤 H 𝓜 𝓖 𝓡) (code.unfolded 𝓤 H 𝓜 𝓡)
