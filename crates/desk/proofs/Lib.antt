@@ -2,3 +2,4 @@
 pub mod Spelt
 pub mod Summed
 pub mod Refused
+pub mod Solids

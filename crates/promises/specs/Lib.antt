@@ -1,0 +1,3 @@
+-- Histories of the accumulator: what their exact total is, and what it means that one was run.
+pub mod History
+pub mod Run
