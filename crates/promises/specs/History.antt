@@ -53,10 +53,14 @@ WithoutNar (s ∷ h) = Numbers s × WithoutNar h
 abbrev pub Within : ℤ → Type 0
 Within t = natAbs t < 2 ^ 511
 
+-- the total stays below H in size after every step
+abbrev pub StaysBelow : ℕ → ℤ → List Step → Type 0
+StaysBelow H t [] = Unit {0}
+StaysBelow H t (s ∷ h) = (natAbs (moves s t) < H) × StaysBelow H (moves s t) h
+
 -- the total stays within that range after every step
 abbrev pub StaysFrom : ℤ → List Step → Type 0
-StaysFrom t [] = Unit {0}
-StaysFrom t (s ∷ h) = Within (moves s t) × StaysFrom (moves s t) h
+StaysFrom t h = StaysBelow (2 ^ 511) t h
 
 abbrev pub Stays : List Step → Type 0
 Stays h = StaysFrom (pos 0) h
