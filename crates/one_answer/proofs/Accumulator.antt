@@ -1,0 +1,85 @@
+-- One promise, one answer, of every public function on the accumulator. The statement is `Fixes` (Fixes.antt); p and p′ say that two results meet the contract.
+use mathlib.Core.Path.{_≡_, refl, sym, ap, _∙_}
+use lib.ListN.{getD}
+use Rattle.one_answer.proofs.Fixes.{Fixes, FixesTyped}
+use Rattle.one_answer.proofs.Determined.{same-words}
+use Rattle.quire_words.proofs as quire-words
+use Rattle.quire_steps.proofs as quire-steps
+use Rattle.quire_totals.proofs as quire-totals
+use Rattle.quire32.proofs.Q32E2 as quire
+
+-- ---- quire_words: where the number alone is told, it determines words of 64 bits
+pub quire-words-add-fixes : FixesTyped quire-words.add.ended (quire-words.add.Kinds.r .is .Ok) quire-words.add.Reads.Pre quire-words.add.Reads.Post
+quire-words-add-fixes κs a q x y u v p p′ = (same-words x y (p .0) (p′ .0) (p .1 ∙ sym (p′ .1)), refl)
+
+pub quire-words-complement-fixes : FixesTyped quire-words.complement.ended (quire-words.complement.Kinds.r .is .Ok) quire-words.complement.Reads.Pre quire-words.complement.Reads.Post
+quire-words-complement-fixes κs a q x y u v p p′ = (same-words x y (p .0) (p′ .0) (p .1 ∙ sym (p′ .1)), refl)
+
+pub quire-words-sub-fixes : FixesTyped quire-words.sub.ended (quire-words.sub.Kinds.r .is .Ok) quire-words.sub.Reads.Pre quire-words.sub.Reads.Post
+quire-words-sub-fixes κs a q x y u v p p′ = (same-words x y (p .0) (p′ .0) (p .1 ∙ sym (p′ .1)), refl)
+
+pub quire-words-negative-of-fixes : FixesTyped quire-words.negative_of.ended (quire-words.negative_of.Kinds.r .is .Ok) quire-words.negative_of.Reads.Pre quire-words.negative_of.Reads.Post
+quire-words-negative-of-fixes κs a q x y u v p p′ = (same-words x y (p .0) (p′ .0) (p .1 ∙ sym (p′ .1)), refl)
+
+pub quire-words-any-from-fixes : Fixes quire-words.any_from.ended quire-words.any_from.Reads.Pre quire-words.any_from.Reads.Post
+quire-words-any-from-fixes κs a q x y u v p p′ = (p ∙ sym p′, refl)
+
+pub quire-words-is-alone-fixes : Fixes quire-words.is_alone.ended quire-words.is_alone.Reads.Pre quire-words.is_alone.Reads.Post
+quire-words-is-alone-fixes κs a q x y u v p p′ = (p ∙ sym p′, refl)
+
+pub quire-words-sign-of-fixes : Fixes quire-words.sign_of.ended quire-words.sign_of.Reads.Pre quire-words.sign_of.Reads.Post
+quire-words-sign-of-fixes κs a q x y u v p p′ = (p ∙ sym p′, refl)
+
+-- ---- quire_steps
+pub quire-steps-add-product-fixes : Fixes quire-steps.add_product.ended quire-steps.add_product.Reads.Pre quire-steps.add_product.Reads.Post
+quire-steps-add-product-fixes κs a q x y u v p p′ = (p ∙ sym p′, refl)
+
+pub quire-steps-sub-product-fixes : Fixes quire-steps.sub_product.ended quire-steps.sub_product.Reads.Pre quire-steps.sub_product.Reads.Post
+quire-steps-sub-product-fixes κs a q x y u v p p′ = (p ∙ sym p′, refl)
+
+pub quire-steps-add-posit-fixes : Fixes quire-steps.add_posit.ended quire-steps.add_posit.Reads.Pre quire-steps.add_posit.Reads.Post
+quire-steps-add-posit-fixes κs a q x y u v p p′ = (p ∙ sym p′, refl)
+
+pub quire-steps-sub-posit-fixes : Fixes quire-steps.sub_posit.ended quire-steps.sub_posit.Reads.Pre quire-steps.sub_posit.Reads.Post
+quire-steps-sub-posit-fixes κs a q x y u v p p′ = (p ∙ sym p′, refl)
+
+pub quire-steps-neg-fixes : Fixes quire-steps.neg.ended quire-steps.neg.Reads.Pre quire-steps.neg.Reads.Post
+quire-steps-neg-fixes κs a q x y u v p p′ = (p ∙ sym p′, refl)
+
+pub quire-steps-is-zero-fixes : Fixes quire-steps.is_zero.ended quire-steps.is_zero.Reads.Pre quire-steps.is_zero.Reads.Post
+quire-steps-is-zero-fixes κs a q x y u v p p′ = (p ∙ sym p′, refl)
+
+pub quire-steps-is-nar-fixes : Fixes quire-steps.is_nar.ended quire-steps.is_nar.Reads.Pre quire-steps.is_nar.Reads.Post
+quire-steps-is-nar-fixes κs a q x y u v p p′ = (p ∙ sym p′, refl)
+
+pub quire-steps-cleared-fixes : Fixes quire-steps.cleared.ended quire-steps.cleared.Reads.Pre quire-steps.cleared.Reads.Post
+quire-steps-cleared-fixes κs a q x y u v p p′ = (p ∙ sym p′, refl)
+
+pub quire-steps-from-posit-fixes : Fixes quire-steps.from_posit.ended quire-steps.from_posit.Reads.Pre quire-steps.from_posit.Reads.Post
+quire-steps-from-posit-fixes κs a q x y u v p p′ = (p ∙ sym p′, refl)
+
+-- ---- quire_totals
+pub quire-totals-to-posit-fixes : Fixes quire-totals.to_posit.ended quire-totals.to_posit.Reads.Pre quire-totals.to_posit.Reads.Post
+quire-totals-to-posit-fixes κs a q x y u v p p′ = (λ i. record { 0 = (p ∙ sym p′) i }, refl)
+
+pub quire-totals-two-posits-fixes : Fixes quire-totals.two_posits.ended quire-totals.two_posits.Reads.Pre quire-totals.two_posits.Reads.Post
+quire-totals-two-posits-fixes κs a q x y u v p p′ = (λ i. record { first = record { 0 = getD ((p ∙ sym p′) i) 0 0 }; second = record { 0 = getD ((p ∙ sym p′) i) 1 0 } }, refl)
+
+pub quire-totals-three-posits-fixes : Fixes quire-totals.three_posits.ended quire-totals.three_posits.Reads.Pre quire-totals.three_posits.Reads.Post
+quire-totals-three-posits-fixes κs a q x y u v p p′ = (λ i. record { first = record { 0 = getD ((p ∙ sym p′) i) 0 0 }; second = record { 0 = getD ((p ∙ sym p′) i) 1 0 }; third = record { 0 = getD ((p ∙ sym p′) i) 2 0 } }, refl)
+
+-- ---- quire32
+pub quire32-init-fixes : Fixes quire.init.ended quire.init.Reads.Pre quire.init.Reads.Post
+quire32-init-fixes κs a q x y u v p p′ = (λ i. record { 0 = (p ∙ sym p′) i }, refl)
+
+pub quire32-from-bits-fixes : Fixes quire.from_bits.ended quire.from_bits.Reads.Pre quire.from_bits.Reads.Post
+quire32-from-bits-fixes κs a q x y u v p p′ = (λ i. record { 0 = (p ∙ sym p′) i }, refl)
+
+pub quire32-from-posit-fixes : Fixes quire.from_posit.ended quire.from_posit.Reads.Pre quire.from_posit.Reads.Post
+quire32-from-posit-fixes κs a q x y u v p p′ = (λ i. record { 0 = (p ∙ sym p′) i }, refl)
+
+pub quire32-into-two-posits-fixes : Fixes quire.into_two_posits.ended quire.into_two_posits.Reads.Pre quire.into_two_posits.Reads.Post
+quire32-into-two-posits-fixes κs a q x y u v p p′ = (λ i. record { first = record { 0 = getD ((p ∙ sym p′) i) 0 0 }; second = record { 0 = getD ((p ∙ sym p′) i) 1 0 } }, refl)
+
+pub quire32-into-three-posits-fixes : Fixes quire.into_three_posits.ended quire.into_three_posits.Reads.Pre quire.into_three_posits.Reads.Post
+quire32-into-three-posits-fixes κs a q x y u v p p′ = (λ i. record { first = record { 0 = getD ((p ∙ sym p′) i) 0 0 }; second = record { 0 = getD ((p ∙ sym p′) i) 1 0 }; third = record { 0 = getD ((p ∙ sym p′) i) 2 0 } }, refl)

@@ -1,0 +1,20 @@
+-- One promise, one answer, of every public function of the desk. The statement is `Fixes` (Fixes.antt); p and p′ say that two results meet the contract.
+use mathlib.Core.Path.{_≡_, refl, sym, _∙_}
+use Rattle.one_answer.proofs.Fixes.{Fixes}
+use Rattle.one_answer.proofs.Determined.{write-answer, read-answer, batch-answer, claim-answer}
+use Rattle.desk.proofs as desk
+
+pub desk-image-of-fixes : Fixes desk.image.image_of.ended desk.image.image_of.Reads.Pre desk.image.image_of.Reads.Post
+desk-image-of-fixes κs a q x y u v p p′ = (p ∙ sym p′, refl)
+
+pub desk-write-image-fixes : Fixes desk.image.write_image.ended desk.image.write_image.Reads.Pre desk.image.write_image.Reads.Post
+desk-write-image-fixes κs a q x y u v p p′ = (write-answer x y (p .0 ∙ sym (p′ .0)), λ i. (tt, ((p .1 ∙ sym (p′ .1)) i, tt)))
+
+pub desk-read-image-fixes : Fixes desk.image.read_image.ended desk.image.read_image.Reads.Pre desk.image.read_image.Reads.Post
+desk-read-image-fixes κs a q x y u v p p′ = (λ i. record { words = (p .1 ∙ sym (p′ .1)) i; answer = read-answer (x .answer) (y .answer) (p .0 ∙ sym (p′ .0)) i }, refl)
+
+pub desk-add-batch-fixes : Fixes desk.batch.add_batch.ended desk.batch.add_batch.Reads.Pre desk.batch.add_batch.Reads.Post
+desk-add-batch-fixes κs a q x y u v p p′ = (λ i. record { words = (p .1 ∙ sym (p′ .1)) i; answer = batch-answer (x .answer) (y .answer) (p .0 ∙ sym (p′ .0)) i }, refl)
+
+pub desk-check-claim-fixes : Fixes desk.claim.check_claim.ended desk.claim.check_claim.Reads.Pre desk.claim.check_claim.Reads.Post
+desk-check-claim-fixes κs a q x y u v p p′ = (claim-answer x y (p ∙ sym p′), refl)

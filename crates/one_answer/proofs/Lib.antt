@@ -1,0 +1,5 @@
+mod Fixes
+mod Determined
+mod Arithmetic
+mod Accumulator
+mod Desk
