@@ -85,32 +85,32 @@ pub quire32-into-three-posits-fixes : Fixes quire.into_three_posits.ended quire.
 quire32-into-three-posits-fixes κs a q x y u v p p′ = (λ i. record { first = record { 0 = getD ((p ∙ sym p′) i) 0 0 }; second = record { 0 = getD ((p ∙ sym p′) i) 1 0 }; third = record { 0 = getD ((p ∙ sym p′) i) 2 0 } }, refl)
 
 -- the methods that are lent the accumulator to read it, and those that change it, which have no result
-pub quire32-to-bits-fixes : FixesLent quire.to_bits.ended (λ M 𝓤. quire.to_bits.clauses 𝓤)
+unfoldable pub quire32-to-bits-fixes : FixesLent quire.to_bits.ended (λ M 𝓤. quire.to_bits.clauses 𝓤)
 quire32-to-bits-fixes = (_, λ M 𝓤 H A mem run κs a g x s. refl, λ κs a q x y u v p p′. (p ∙ sym p′, refl))
 
-pub quire32-is-zero-fixes : FixesLent quire.is_zero.ended (λ M 𝓤. quire.is_zero.clauses 𝓤)
+unfoldable pub quire32-is-zero-fixes : FixesLent quire.is_zero.ended (λ M 𝓤. quire.is_zero.clauses 𝓤)
 quire32-is-zero-fixes = (_, λ M 𝓤 H A mem run κs a g x s. refl, λ κs a q x y u v p p′. (p ∙ sym p′, refl))
 
-pub quire32-is-nar-fixes : FixesLent quire.is_nar.ended (λ M 𝓤. quire.is_nar.clauses 𝓤)
+unfoldable pub quire32-is-nar-fixes : FixesLent quire.is_nar.ended (λ M 𝓤. quire.is_nar.clauses 𝓤)
 quire32-is-nar-fixes = (_, λ M 𝓤 H A mem run κs a g x s. refl, λ κs a q x y u v p p′. (p ∙ sym p′, refl))
 
-pub quire32-to-posit-fixes : FixesLent quire.to_posit.ended (λ M 𝓤. quire.to_posit.clauses 𝓤)
+unfoldable pub quire32-to-posit-fixes : FixesLent quire.to_posit.ended (λ M 𝓤. quire.to_posit.clauses 𝓤)
 quire32-to-posit-fixes = (_, λ M 𝓤 H A mem run κs a g x s. refl, λ κs a q x y u v p p′. (λ i. record { 0 = (p ∙ sym p′) i }, refl))
 
-pub quire32-add-product-fixes : FixesLent quire.add_product.ended (λ M 𝓤. quire.add_product.clauses 𝓤)
+unfoldable pub quire32-add-product-fixes : FixesLent quire.add_product.ended (λ M 𝓤. quire.add_product.clauses 𝓤)
 quire32-add-product-fixes = (_, λ M 𝓤 H A mem run κs a g x s. refl, λ κs a q x y u v p p′. (refl, λ i. (record { 0 = (p ∙ sym p′) i }, u .1)))
 
-pub quire32-sub-product-fixes : FixesLent quire.sub_product.ended (λ M 𝓤. quire.sub_product.clauses 𝓤)
+unfoldable pub quire32-sub-product-fixes : FixesLent quire.sub_product.ended (λ M 𝓤. quire.sub_product.clauses 𝓤)
 quire32-sub-product-fixes = (_, λ M 𝓤 H A mem run κs a g x s. refl, λ κs a q x y u v p p′. (refl, λ i. (record { 0 = (p ∙ sym p′) i }, u .1)))
 
-pub quire32-add-posit-fixes : FixesLent quire.add_posit.ended (λ M 𝓤. quire.add_posit.clauses 𝓤)
+unfoldable pub quire32-add-posit-fixes : FixesLent quire.add_posit.ended (λ M 𝓤. quire.add_posit.clauses 𝓤)
 quire32-add-posit-fixes = (_, λ M 𝓤 H A mem run κs a g x s. refl, λ κs a q x y u v p p′. (refl, λ i. (record { 0 = (p ∙ sym p′) i }, u .1)))
 
-pub quire32-sub-posit-fixes : FixesLent quire.sub_posit.ended (λ M 𝓤. quire.sub_posit.clauses 𝓤)
+unfoldable pub quire32-sub-posit-fixes : FixesLent quire.sub_posit.ended (λ M 𝓤. quire.sub_posit.clauses 𝓤)
 quire32-sub-posit-fixes = (_, λ M 𝓤 H A mem run κs a g x s. refl, λ κs a q x y u v p p′. (refl, λ i. (record { 0 = (p ∙ sym p′) i }, u .1)))
 
-pub quire32-neg-fixes : FixesLent quire.neg.ended (λ M 𝓤. quire.neg.clauses 𝓤)
+unfoldable pub quire32-neg-fixes : FixesLent quire.neg.ended (λ M 𝓤. quire.neg.clauses 𝓤)
 quire32-neg-fixes = (_, λ M 𝓤 H A mem run κs a g x s. refl, λ κs a q x y u v p p′. (refl, λ i. (record { 0 = (p ∙ sym p′) i }, u .1)))
 
-pub quire32-clear-fixes : FixesLent quire.clear.ended (λ M 𝓤. quire.clear.clauses 𝓤)
+unfoldable pub quire32-clear-fixes : FixesLent quire.clear.ended (λ M 𝓤. quire.clear.clauses 𝓤)
 quire32-clear-fixes = (_, λ M 𝓤 H A mem run κs a g x s. refl, λ κs a q x y u v p p′. (refl, λ i. (record { 0 = (p ∙ sym p′) i }, u .1)))

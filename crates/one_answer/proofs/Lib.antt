@@ -3,3 +3,5 @@ mod Determined
 mod Arithmetic
 mod Accumulator
 mod Desk
+mod Engines
+mod Wrong
