@@ -6,7 +6,7 @@ use Rattle.one_answer.proofs.Determined.{same-words}
 use Rattle.quire_words.proofs as quire-words
 use Rattle.quire_steps.proofs as quire-steps
 use Rattle.quire_totals.proofs as quire-totals
-use Rattle.quire32.proofs.Q32E2 as quire
+use Rattle.quire32.proofs as quire32
 
 -- ---- quire_words: where the number alone is told, it determines words of 64 bits
 pub quire-words-add-fixes : FixesTyped quire-words.add.ended (quire-words.add.Kinds.r .is .Ok) quire-words.add.Reads.Pre quire-words.add.Reads.Post
@@ -69,48 +69,48 @@ pub quire-totals-three-posits-fixes : Fixes quire-totals.three_posits.ended quir
 quire-totals-three-posits-fixes κs a q x y u v p p′ = (λ i. record { first = record { 0 = getD ((p ∙ sym p′) i) 0 0 }; second = record { 0 = getD ((p ∙ sym p′) i) 1 0 }; third = record { 0 = getD ((p ∙ sym p′) i) 2 0 } }, refl)
 
 -- ---- quire32
-pub quire32-init-fixes : Fixes quire.init.ended quire.init.Reads.Pre quire.init.Reads.Post
+pub quire32-init-fixes : Fixes quire32.Q32E2.init.ended quire32.Q32E2.init.Reads.Pre quire32.Q32E2.init.Reads.Post
 quire32-init-fixes κs a q x y u v p p′ = (λ i. record { 0 = (p ∙ sym p′) i }, refl)
 
-pub quire32-from-bits-fixes : Fixes quire.from_bits.ended quire.from_bits.Reads.Pre quire.from_bits.Reads.Post
+pub quire32-from-bits-fixes : Fixes quire32.Q32E2.from_bits.ended quire32.Q32E2.from_bits.Reads.Pre quire32.Q32E2.from_bits.Reads.Post
 quire32-from-bits-fixes κs a q x y u v p p′ = (λ i. record { 0 = (p ∙ sym p′) i }, refl)
 
-pub quire32-from-posit-fixes : Fixes quire.from_posit.ended quire.from_posit.Reads.Pre quire.from_posit.Reads.Post
+pub quire32-from-posit-fixes : Fixes quire32.Q32E2.from_posit.ended quire32.Q32E2.from_posit.Reads.Pre quire32.Q32E2.from_posit.Reads.Post
 quire32-from-posit-fixes κs a q x y u v p p′ = (λ i. record { 0 = (p ∙ sym p′) i }, refl)
 
-pub quire32-into-two-posits-fixes : Fixes quire.into_two_posits.ended quire.into_two_posits.Reads.Pre quire.into_two_posits.Reads.Post
+pub quire32-into-two-posits-fixes : Fixes quire32.Q32E2.into_two_posits.ended quire32.Q32E2.into_two_posits.Reads.Pre quire32.Q32E2.into_two_posits.Reads.Post
 quire32-into-two-posits-fixes κs a q x y u v p p′ = (λ i. record { first = record { 0 = getD ((p ∙ sym p′) i) 0 0 }; second = record { 0 = getD ((p ∙ sym p′) i) 1 0 } }, refl)
 
-pub quire32-into-three-posits-fixes : Fixes quire.into_three_posits.ended quire.into_three_posits.Reads.Pre quire.into_three_posits.Reads.Post
+pub quire32-into-three-posits-fixes : Fixes quire32.Q32E2.into_three_posits.ended quire32.Q32E2.into_three_posits.Reads.Pre quire32.Q32E2.into_three_posits.Reads.Post
 quire32-into-three-posits-fixes κs a q x y u v p p′ = (λ i. record { first = record { 0 = getD ((p ∙ sym p′) i) 0 0 }; second = record { 0 = getD ((p ∙ sym p′) i) 1 0 }; third = record { 0 = getD ((p ∙ sym p′) i) 2 0 } }, refl)
 
 -- the methods that are lent the accumulator to read it, and those that change it, which have no result
-unfoldable pub quire32-to-bits-fixes : FixesLent quire.to_bits.ended (λ M 𝓤. quire.to_bits.clauses 𝓤)
+unfoldable pub quire32-to-bits-fixes : FixesLent quire32.Q32E2.to_bits.ended (λ M 𝓤. quire32.Q32E2.to_bits.clauses 𝓤)
 quire32-to-bits-fixes = (_, λ M 𝓤 H A mem run κs a g x s. refl, λ κs a q x y u v p p′. (p ∙ sym p′, refl))
 
-unfoldable pub quire32-is-zero-fixes : FixesLent quire.is_zero.ended (λ M 𝓤. quire.is_zero.clauses 𝓤)
+unfoldable pub quire32-is-zero-fixes : FixesLent quire32.Q32E2.is_zero.ended (λ M 𝓤. quire32.Q32E2.is_zero.clauses 𝓤)
 quire32-is-zero-fixes = (_, λ M 𝓤 H A mem run κs a g x s. refl, λ κs a q x y u v p p′. (p ∙ sym p′, refl))
 
-unfoldable pub quire32-is-nar-fixes : FixesLent quire.is_nar.ended (λ M 𝓤. quire.is_nar.clauses 𝓤)
+unfoldable pub quire32-is-nar-fixes : FixesLent quire32.Q32E2.is_nar.ended (λ M 𝓤. quire32.Q32E2.is_nar.clauses 𝓤)
 quire32-is-nar-fixes = (_, λ M 𝓤 H A mem run κs a g x s. refl, λ κs a q x y u v p p′. (p ∙ sym p′, refl))
 
-unfoldable pub quire32-to-posit-fixes : FixesLent quire.to_posit.ended (λ M 𝓤. quire.to_posit.clauses 𝓤)
+unfoldable pub quire32-to-posit-fixes : FixesLent quire32.Q32E2.to_posit.ended (λ M 𝓤. quire32.Q32E2.to_posit.clauses 𝓤)
 quire32-to-posit-fixes = (_, λ M 𝓤 H A mem run κs a g x s. refl, λ κs a q x y u v p p′. (λ i. record { 0 = (p ∙ sym p′) i }, refl))
 
-unfoldable pub quire32-add-product-fixes : FixesLent quire.add_product.ended (λ M 𝓤. quire.add_product.clauses 𝓤)
+unfoldable pub quire32-add-product-fixes : FixesLent quire32.Q32E2.add_product.ended (λ M 𝓤. quire32.Q32E2.add_product.clauses 𝓤)
 quire32-add-product-fixes = (_, λ M 𝓤 H A mem run κs a g x s. refl, λ κs a q x y u v p p′. (refl, λ i. (record { 0 = (p ∙ sym p′) i }, u .1)))
 
-unfoldable pub quire32-sub-product-fixes : FixesLent quire.sub_product.ended (λ M 𝓤. quire.sub_product.clauses 𝓤)
+unfoldable pub quire32-sub-product-fixes : FixesLent quire32.Q32E2.sub_product.ended (λ M 𝓤. quire32.Q32E2.sub_product.clauses 𝓤)
 quire32-sub-product-fixes = (_, λ M 𝓤 H A mem run κs a g x s. refl, λ κs a q x y u v p p′. (refl, λ i. (record { 0 = (p ∙ sym p′) i }, u .1)))
 
-unfoldable pub quire32-add-posit-fixes : FixesLent quire.add_posit.ended (λ M 𝓤. quire.add_posit.clauses 𝓤)
+unfoldable pub quire32-add-posit-fixes : FixesLent quire32.Q32E2.add_posit.ended (λ M 𝓤. quire32.Q32E2.add_posit.clauses 𝓤)
 quire32-add-posit-fixes = (_, λ M 𝓤 H A mem run κs a g x s. refl, λ κs a q x y u v p p′. (refl, λ i. (record { 0 = (p ∙ sym p′) i }, u .1)))
 
-unfoldable pub quire32-sub-posit-fixes : FixesLent quire.sub_posit.ended (λ M 𝓤. quire.sub_posit.clauses 𝓤)
+unfoldable pub quire32-sub-posit-fixes : FixesLent quire32.Q32E2.sub_posit.ended (λ M 𝓤. quire32.Q32E2.sub_posit.clauses 𝓤)
 quire32-sub-posit-fixes = (_, λ M 𝓤 H A mem run κs a g x s. refl, λ κs a q x y u v p p′. (refl, λ i. (record { 0 = (p ∙ sym p′) i }, u .1)))
 
-unfoldable pub quire32-neg-fixes : FixesLent quire.neg.ended (λ M 𝓤. quire.neg.clauses 𝓤)
+unfoldable pub quire32-neg-fixes : FixesLent quire32.Q32E2.neg.ended (λ M 𝓤. quire32.Q32E2.neg.clauses 𝓤)
 quire32-neg-fixes = (_, λ M 𝓤 H A mem run κs a g x s. refl, λ κs a q x y u v p p′. (refl, λ i. (record { 0 = (p ∙ sym p′) i }, u .1)))
 
-unfoldable pub quire32-clear-fixes : FixesLent quire.clear.ended (λ M 𝓤. quire.clear.clauses 𝓤)
+unfoldable pub quire32-clear-fixes : FixesLent quire32.Q32E2.clear.ended (λ M 𝓤. quire32.Q32E2.clear.clauses 𝓤)
 quire32-clear-fixes = (_, λ M 𝓤 H A mem run κs a g x s. refl, λ κs a q x y u v p p′. (refl, λ i. (record { 0 = (p ∙ sym p′) i }, u .1)))

@@ -7,7 +7,7 @@ use Rattle.unpacking.proofs as unpacking
 use Rattle.exact_terms.proofs as exact-terms
 use Rattle.division.proofs as division
 use Rattle.square_root.proofs as square-root
-use Rattle.p32e2.proofs.P32E2 as posit
+use Rattle.p32e2.proofs as p32e2
 
 -- ---- rounding
 pub rounding-pack-fixes : Fixes rounding.pack.ended rounding.pack.Reads.Pre rounding.pack.Reads.Post
@@ -42,47 +42,47 @@ pub square-root-sqrt-fixes : Fixes square-root.sqrt.ended square-root.sqrt.Reads
 square-root-sqrt-fixes κs a q x y u v p p′ = (p ∙ sym p′, refl)
 
 -- ---- p32e2
-pub p32e2-from-bits-fixes : Fixes posit.from_bits.ended posit.from_bits.Reads.Pre posit.from_bits.Reads.Post
+pub p32e2-from-bits-fixes : Fixes p32e2.P32E2.from_bits.ended p32e2.P32E2.from_bits.Reads.Pre p32e2.P32E2.from_bits.Reads.Post
 p32e2-from-bits-fixes κs a q x y u v p p′ = (λ i. record { 0 = (p ∙ sym p′) i }, refl)
 
-pub p32e2-to-bits-fixes : Fixes posit.to_bits.ended posit.to_bits.Reads.Pre posit.to_bits.Reads.Post
+pub p32e2-to-bits-fixes : Fixes p32e2.P32E2.to_bits.ended p32e2.P32E2.to_bits.Reads.Pre p32e2.P32E2.to_bits.Reads.Post
 p32e2-to-bits-fixes κs a q x y u v p p′ = (p ∙ sym p′, refl)
 
-pub p32e2-is-zero-fixes : Fixes posit.is_zero.ended posit.is_zero.Reads.Pre posit.is_zero.Reads.Post
+pub p32e2-is-zero-fixes : Fixes p32e2.P32E2.is_zero.ended p32e2.P32E2.is_zero.Reads.Pre p32e2.P32E2.is_zero.Reads.Post
 p32e2-is-zero-fixes κs a q x y u v p p′ = (p ∙ sym p′, refl)
 
-pub p32e2-is-nar-fixes : Fixes posit.is_nar.ended posit.is_nar.Reads.Pre posit.is_nar.Reads.Post
+pub p32e2-is-nar-fixes : Fixes p32e2.P32E2.is_nar.ended p32e2.P32E2.is_nar.Reads.Pre p32e2.P32E2.is_nar.Reads.Post
 p32e2-is-nar-fixes κs a q x y u v p p′ = (p ∙ sym p′, refl)
 
-pub p32e2-recip-fixes : Fixes posit.recip.ended posit.recip.Reads.Pre posit.recip.Reads.Post
+pub p32e2-recip-fixes : Fixes p32e2.P32E2.recip.ended p32e2.P32E2.recip.Reads.Pre p32e2.P32E2.recip.Reads.Post
 p32e2-recip-fixes κs a q x y u v p p′ = (λ i. record { 0 = (p ∙ sym p′) i }, refl)
 
-pub p32e2-unpack-fixes : Fixes posit.unpack.ended posit.unpack.Reads.Pre posit.unpack.Reads.Post
+pub p32e2-unpack-fixes : Fixes p32e2.P32E2.unpack.ended p32e2.P32E2.unpack.Reads.Pre p32e2.P32E2.unpack.Reads.Post
 p32e2-unpack-fixes κs a q x y u v p p′ = (unpacked x y (p ∙ sym p′), refl)
 
-pub p32e2-sqrt-fixes : Fixes posit.sqrt.ended posit.sqrt.Reads.Pre posit.sqrt.Reads.Post
+pub p32e2-sqrt-fixes : Fixes p32e2.P32E2.sqrt.ended p32e2.P32E2.sqrt.Reads.Pre p32e2.P32E2.sqrt.Reads.Post
 p32e2-sqrt-fixes κs a q x y u v p p′ = (λ i. record { 0 = (p ∙ sym p′) i }, refl)
 
-pub p32e2-mul-add-fixes : Fixes posit.mul_add.ended posit.mul_add.Reads.Pre posit.mul_add.Reads.Post
+pub p32e2-mul-add-fixes : Fixes p32e2.P32E2.mul_add.ended p32e2.P32E2.mul_add.Reads.Pre p32e2.P32E2.mul_add.Reads.Post
 p32e2-mul-add-fixes κs a q x y u v p p′ = (λ i. record { 0 = (p ∙ sym p′) i }, refl)
 
-pub p32e2-mul-sub-fixes : Fixes posit.mul_sub.ended posit.mul_sub.Reads.Pre posit.mul_sub.Reads.Post
+pub p32e2-mul-sub-fixes : Fixes p32e2.P32E2.mul_sub.ended p32e2.P32E2.mul_sub.Reads.Pre p32e2.P32E2.mul_sub.Reads.Post
 p32e2-mul-sub-fixes κs a q x y u v p p′ = (λ i. record { 0 = (p ∙ sym p′) i }, refl)
 
-pub p32e2-sub-product-fixes : Fixes posit.sub_product.ended posit.sub_product.Reads.Pre posit.sub_product.Reads.Post
+pub p32e2-sub-product-fixes : Fixes p32e2.P32E2.sub_product.ended p32e2.P32E2.sub_product.Reads.Pre p32e2.P32E2.sub_product.Reads.Post
 p32e2-sub-product-fixes κs a q x y u v p p′ = (λ i. record { 0 = (p ∙ sym p′) i }, refl)
 
-pub p32e2-neg-fixes : Fixes posit.neg.ended posit.neg.Reads.Pre posit.neg.Reads.Post
+pub p32e2-neg-fixes : Fixes p32e2.P32E2.neg.ended p32e2.P32E2.neg.Reads.Pre p32e2.P32E2.neg.Reads.Post
 p32e2-neg-fixes κs a q x y u v p p′ = (λ i. record { 0 = (p ∙ sym p′) i }, refl)
 
-pub p32e2-add-fixes : Fixes posit.add.ended posit.add.Reads.Pre posit.add.Reads.Post
+pub p32e2-add-fixes : Fixes p32e2.P32E2.add.ended p32e2.P32E2.add.Reads.Pre p32e2.P32E2.add.Reads.Post
 p32e2-add-fixes κs a q x y u v p p′ = (λ i. record { 0 = (p ∙ sym p′) i }, refl)
 
-pub p32e2-sub-fixes : Fixes posit.sub.ended posit.sub.Reads.Pre posit.sub.Reads.Post
+pub p32e2-sub-fixes : Fixes p32e2.P32E2.sub.ended p32e2.P32E2.sub.Reads.Pre p32e2.P32E2.sub.Reads.Post
 p32e2-sub-fixes κs a q x y u v p p′ = (λ i. record { 0 = (p ∙ sym p′) i }, refl)
 
-pub p32e2-mul-fixes : Fixes posit.mul.ended posit.mul.Reads.Pre posit.mul.Reads.Post
+pub p32e2-mul-fixes : Fixes p32e2.P32E2.mul.ended p32e2.P32E2.mul.Reads.Pre p32e2.P32E2.mul.Reads.Post
 p32e2-mul-fixes κs a q x y u v p p′ = (λ i. record { 0 = (p ∙ sym p′) i }, refl)
 
-pub p32e2-div-fixes : Fixes posit.div.ended posit.div.Reads.Pre posit.div.Reads.Post
+pub p32e2-div-fixes : Fixes p32e2.P32E2.div.ended p32e2.P32E2.div.Reads.Pre p32e2.P32E2.div.Reads.Post
 p32e2-div-fixes κs a q x y u v p p′ = (λ i. record { 0 = (p ∙ sym p′) i }, refl)

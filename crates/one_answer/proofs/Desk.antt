@@ -18,3 +18,15 @@ desk-add-batch-fixes κs a q x y u v p p′ = (λ i. record { words = (p .1 ∙ 
 
 pub desk-check-claim-fixes : Fixes desk.claim.check_claim.ended desk.claim.check_claim.Reads.Pre desk.claim.check_claim.Reads.Post
 desk-check-claim-fixes κs a q x y u v p p′ = (claim-answer x y (p ∙ sym p′), refl)
+
+pub desk-write-number-fixes : Fixes desk.image.WriteAnswer.number.ended desk.image.WriteAnswer.number.Reads.Pre desk.image.WriteAnswer.number.Reads.Post
+desk-write-number-fixes κs a q x y u v p p′ = (p ∙ sym p′, refl)
+
+pub desk-read-number-fixes : Fixes desk.image.ReadAnswer.number.ended desk.image.ReadAnswer.number.Reads.Pre desk.image.ReadAnswer.number.Reads.Post
+desk-read-number-fixes κs a q x y u v p p′ = (p ∙ sym p′, refl)
+
+pub desk-batch-number-fixes : Fixes desk.batch.BatchAnswer.number.ended desk.batch.BatchAnswer.number.Reads.Pre desk.batch.BatchAnswer.number.Reads.Post
+desk-batch-number-fixes κs a q x y u v p p′ = (p ∙ sym p′, refl)
+
+pub desk-claim-number-fixes : Fixes desk.claim.ClaimAnswer.number.ended desk.claim.ClaimAnswer.number.Reads.Pre desk.claim.ClaimAnswer.number.Reads.Post
+desk-claim-number-fixes κs a q x y u v p p′ = (p ∙ sym p′, refl)

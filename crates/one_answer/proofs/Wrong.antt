@@ -14,10 +14,10 @@ use Rattle.desk.specs.Answers.{writeNumber, readNumber, batchNumber, claimNumbe
 use Rattle.one_answer.proofs.Engines.{NoConstant, NotAlways, constant-fails, always-fails}
 use Rattle.one_answer.proofs.Accumulator.{quire32-add-product-fixes, quire32-sub-product-fixes, quire32-add-posit-fixes, quire32-sub-posit-fixes}
 use Rattle.p32e2.specs.declared.P32E2.{P32E2}
-use Rattle.p32e2.proofs.P32E2 as posit
+use Rattle.p32e2.proofs as p32e2
 use Rattle.quire_steps.proofs as quire-steps
 use Rattle.quire_totals.proofs as quire-totals
-use Rattle.quire32.proofs.Q32E2 as quire
+use Rattle.quire32.proofs as quire32
 use Rattle.desk.proofs as desk
 
 -- ---- arguments
@@ -36,43 +36,43 @@ abbrev bytes : ℕ → List ℕ
 bytes n = digits (2 ^ 8) 64 n
 
 -- ---- the same every time: NaR, or a posit, or anything else
-pub p32e2-neg-not-constant : NoConstant posit.neg.ended (λ κs a r u. r .0) posit.neg.Reads.Pre posit.neg.Reads.Post
+pub p32e2-neg-not-constant : NoConstant p32e2.P32E2.neg.ended (λ κs a r u. r .0) p32e2.P32E2.neg.Reads.Pre p32e2.P32E2.neg.Reads.Post
 unfolding everything
 p32e2-neg-not-constant = constant-fails _ (λ κs a x u p. p) tt (bits 0, tt) (bits 1, tt) tt tt tt
 
-pub p32e2-add-not-constant : NoConstant posit.add.ended (λ κs a r u. r .0) posit.add.Reads.Pre posit.add.Reads.Post
+pub p32e2-add-not-constant : NoConstant p32e2.P32E2.add.ended (λ κs a r u. r .0) p32e2.P32E2.add.Reads.Pre p32e2.P32E2.add.Reads.Post
 unfolding everything
 p32e2-add-not-constant = constant-fails _ (λ κs a x u p. p) tt (bits 0, (bits 0, tt)) (bits 0x80000000, (bits 0, tt)) tt tt tt
 
-pub p32e2-sub-not-constant : NoConstant posit.sub.ended (λ κs a r u. r .0) posit.sub.Reads.Pre posit.sub.Reads.Post
+pub p32e2-sub-not-constant : NoConstant p32e2.P32E2.sub.ended (λ κs a r u. r .0) p32e2.P32E2.sub.Reads.Pre p32e2.P32E2.sub.Reads.Post
 unfolding everything
 p32e2-sub-not-constant = constant-fails _ (λ κs a x u p. p) tt (bits 0, (bits 0, tt)) (bits 0x80000000, (bits 0, tt)) tt tt tt
 
-pub p32e2-mul-not-constant : NoConstant posit.mul.ended (λ κs a r u. r .0) posit.mul.Reads.Pre posit.mul.Reads.Post
+pub p32e2-mul-not-constant : NoConstant p32e2.P32E2.mul.ended (λ κs a r u. r .0) p32e2.P32E2.mul.Reads.Pre p32e2.P32E2.mul.Reads.Post
 unfolding everything
 p32e2-mul-not-constant = constant-fails _ (λ κs a x u p. p) tt (bits 0, (bits 0, tt)) (bits 0x80000000, (bits 0, tt)) tt tt tt
 
-pub p32e2-div-not-constant : NoConstant posit.div.ended (λ κs a r u. r .0) posit.div.Reads.Pre posit.div.Reads.Post
+pub p32e2-div-not-constant : NoConstant p32e2.P32E2.div.ended (λ κs a r u. r .0) p32e2.P32E2.div.Reads.Pre p32e2.P32E2.div.Reads.Post
 unfolding everything
 p32e2-div-not-constant = constant-fails _ (λ κs a x u p. p) tt (bits 0, (bits 0x40000000, tt)) (bits 0, (bits 0, tt)) tt tt tt
 
-pub p32e2-recip-not-constant : NoConstant posit.recip.ended (λ κs a r u. r .0) posit.recip.Reads.Pre posit.recip.Reads.Post
+pub p32e2-recip-not-constant : NoConstant p32e2.P32E2.recip.ended (λ κs a r u. r .0) p32e2.P32E2.recip.Reads.Pre p32e2.P32E2.recip.Reads.Post
 unfolding everything
 p32e2-recip-not-constant = constant-fails _ (λ κs a x u p. p) tt (bits 0x40000000, tt) (bits 0, tt) tt tt tt
 
-pub p32e2-sqrt-not-constant : NoConstant posit.sqrt.ended (λ κs a r u. r .0) posit.sqrt.Reads.Pre posit.sqrt.Reads.Post
+pub p32e2-sqrt-not-constant : NoConstant p32e2.P32E2.sqrt.ended (λ κs a r u. r .0) p32e2.P32E2.sqrt.Reads.Pre p32e2.P32E2.sqrt.Reads.Post
 unfolding everything
 p32e2-sqrt-not-constant = constant-fails _ (λ κs a x u p. p) tt (bits 0, tt) (bits 0xc0000000, tt) tt tt tt
 
-pub p32e2-mul-add-not-constant : NoConstant posit.mul_add.ended (λ κs a r u. r .0) posit.mul_add.Reads.Pre posit.mul_add.Reads.Post
+pub p32e2-mul-add-not-constant : NoConstant p32e2.P32E2.mul_add.ended (λ κs a r u. r .0) p32e2.P32E2.mul_add.Reads.Pre p32e2.P32E2.mul_add.Reads.Post
 unfolding everything
 p32e2-mul-add-not-constant = constant-fails _ (λ κs a x u p. p) tt (bits 0, (bits 0, (bits 0, tt))) (bits 0x80000000, (bits 0, (bits 0, tt))) tt tt tt
 
-pub p32e2-mul-sub-not-constant : NoConstant posit.mul_sub.ended (λ κs a r u. r .0) posit.mul_sub.Reads.Pre posit.mul_sub.Reads.Post
+pub p32e2-mul-sub-not-constant : NoConstant p32e2.P32E2.mul_sub.ended (λ κs a r u. r .0) p32e2.P32E2.mul_sub.Reads.Pre p32e2.P32E2.mul_sub.Reads.Post
 unfolding everything
 p32e2-mul-sub-not-constant = constant-fails _ (λ κs a x u p. p) tt (bits 0, (bits 0, (bits 0, tt))) (bits 0x80000000, (bits 0, (bits 0, tt))) tt tt tt
 
-pub p32e2-sub-product-not-constant : NoConstant posit.sub_product.ended (λ κs a r u. r .0) posit.sub_product.Reads.Pre posit.sub_product.Reads.Post
+pub p32e2-sub-product-not-constant : NoConstant p32e2.P32E2.sub_product.ended (λ κs a r u. r .0) p32e2.P32E2.sub_product.Reads.Pre p32e2.P32E2.sub_product.Reads.Post
 unfolding everything
 p32e2-sub-product-not-constant = constant-fails _ (λ κs a x u p. p) tt (bits 0, (bits 0, (bits 0, tt))) (bits 0x80000000, (bits 0, (bits 0, tt))) tt tt tt
 
@@ -147,19 +147,19 @@ pub quire-steps-sub-posit-not-idle : NotAlways quire-steps.sub_posit.ended (λ �
 unfolding everything
 quire-steps-sub-posit-not-idle = always-fails _ (λ κs a x u p. ap wide p) tt (eight 1, (bits 1, tt)) tt tt tt
 
-pub quire32-add-product-not-idle : NotAlways quire.add_product.ended (λ κs a r u. wide (u .0 .0)) (λ κs a. T (ltb 0 (wide (a .0 .now .0)))) (λ κs a. wide (a .0 .now .0)) (λ κs a. Unit {0}) (quire32-add-product-fixes .0)
+pub quire32-add-product-not-idle : NotAlways quire32.Q32E2.add_product.ended (λ κs a r u. wide (u .0 .0)) (λ κs a. T (ltb 0 (wide (a .0 .now .0)))) (λ κs a. wide (a .0 .now .0)) (λ κs a. Unit {0}) (quire32-add-product-fixes .0)
 unfolding everything quire32-add-product-fixes
 quire32-add-product-not-idle = always-fails _ (λ κs a x u p. ap wide p) ([], tt) (to (record { 0 = eight 1 }), (bits 1, (bits 1, tt))) tt tt tt
 
-pub quire32-sub-product-not-idle : NotAlways quire.sub_product.ended (λ κs a r u. wide (u .0 .0)) (λ κs a. T (ltb 0 (wide (a .0 .now .0)))) (λ κs a. wide (a .0 .now .0)) (λ κs a. Unit {0}) (quire32-sub-product-fixes .0)
+pub quire32-sub-product-not-idle : NotAlways quire32.Q32E2.sub_product.ended (λ κs a r u. wide (u .0 .0)) (λ κs a. T (ltb 0 (wide (a .0 .now .0)))) (λ κs a. wide (a .0 .now .0)) (λ κs a. Unit {0}) (quire32-sub-product-fixes .0)
 unfolding everything quire32-sub-product-fixes
 quire32-sub-product-not-idle = always-fails _ (λ κs a x u p. ap wide p) ([], tt) (to (record { 0 = eight 1 }), (bits 1, (bits 1, tt))) tt tt tt
 
-pub quire32-add-posit-not-idle : NotAlways quire.add_posit.ended (λ κs a r u. wide (u .0 .0)) (λ κs a. T (ltb 0 (wide (a .0 .now .0)))) (λ κs a. wide (a .0 .now .0)) (λ κs a. Unit {0}) (quire32-add-posit-fixes .0)
+pub quire32-add-posit-not-idle : NotAlways quire32.Q32E2.add_posit.ended (λ κs a r u. wide (u .0 .0)) (λ κs a. T (ltb 0 (wide (a .0 .now .0)))) (λ κs a. wide (a .0 .now .0)) (λ κs a. Unit {0}) (quire32-add-posit-fixes .0)
 unfolding everything quire32-add-posit-fixes
 quire32-add-posit-not-idle = always-fails _ (λ κs a x u p. ap wide p) ([], tt) (to (record { 0 = eight 1 }), (bits 1, tt)) tt tt tt
 
-pub quire32-sub-posit-not-idle : NotAlways quire.sub_posit.ended (λ κs a r u. wide (u .0 .0)) (λ κs a. T (ltb 0 (wide (a .0 .now .0)))) (λ κs a. wide (a .0 .now .0)) (λ κs a. Unit {0}) (quire32-sub-posit-fixes .0)
+pub quire32-sub-posit-not-idle : NotAlways quire32.Q32E2.sub_posit.ended (λ κs a r u. wide (u .0 .0)) (λ κs a. T (ltb 0 (wide (a .0 .now .0)))) (λ κs a. wide (a .0 .now .0)) (λ κs a. Unit {0}) (quire32-sub-posit-fixes .0)
 unfolding everything quire32-sub-posit-fixes
 quire32-sub-posit-not-idle = always-fails _ (λ κs a x u p. ap wide p) ([], tt) (to (record { 0 = eight 1 }), (bits 1, tt)) tt tt tt
 
