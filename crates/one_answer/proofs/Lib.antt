@@ -1,0 +1,7 @@
+mod Fixes
+mod Determined
+mod Arithmetic
+mod Accumulator
+mod Desk
+mod Engines
+mod Wrong
