@@ -3,5 +3,6 @@ mod Determined
 mod Arithmetic
 mod Accumulator
 mod Desk
+mod Linked
 mod Engines
 mod Wrong

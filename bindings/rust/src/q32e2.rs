@@ -1,0 +1,135 @@
+use crate::ffi::*;
+use crate::P32E2;
+use core::ops;
+
+/// The accumulator: an exact total of posits and of their products, or NaR.
+///
+/// ```
+/// use stallhitch::{P32E2, Q32E2};
+///
+/// let mut q = Q32E2::init();
+/// q += (P32E2::MAX, P32E2::MAX);
+/// q += P32E2::MIN_POSITIVE;
+/// q -= (P32E2::MAX, P32E2::MAX);
+/// assert_eq!(q.to_posit(), P32E2::MIN_POSITIVE); // nothing was rounded on the way
+/// ```
+///
+/// The words count units of 2^-240 in two's complement, word 0 most significant. A NaR operand, or a total outside ±(2^511 - 1)
+/// units, makes NaR, and no step leads out of it; `clear` does.
+#[derive(Clone, Debug, PartialEq, Eq)]
+pub struct Q32E2([u64; 8]);
+
+impl Q32E2 {
+    pub const ZERO: Self = Self([0; 8]);
+    pub const ONE: Self = Self([0, 0, 0, 0, 0x0001_0000_0000_0000, 0, 0, 0]);
+    /// Not a real.
+    pub const NAR: Self = Self([0x8000_0000_0000_0000, 0, 0, 0, 0, 0, 0, 0]);
+
+    #[inline]
+    pub const fn init() -> Self {
+        Self::ZERO
+    }
+
+    /// Any eight words are a state.
+    #[inline]
+    pub const fn from_bits(v: [u64; 8]) -> Self {
+        Self(v)
+    }
+
+    #[inline]
+    pub const fn to_bits(&self) -> [u64; 8] {
+        self.0
+    }
+
+    /// The posit's exact value; NaR for NaR.
+    #[inline]
+    pub fn from_posit(p: P32E2) -> Self {
+        let mut q = Self::init();
+        q += p;
+        q
+    }
+
+    /// The total, rounded; NaR for NaR.
+    #[inline]
+    pub fn to_posit(&self) -> P32E2 {
+        P32E2::from_bits(stallhitch_q32e2_to_posit(&self.0))
+    }
+
+    #[inline]
+    pub fn is_zero(&self) -> bool {
+        stallhitch_q32e2_is_zero(&self.0)
+    }
+
+    #[inline]
+    pub fn is_nar(&self) -> bool {
+        stallhitch_q32e2_is_nar(&self.0)
+    }
+
+    #[inline]
+    pub fn add_product(&mut self, a: P32E2, b: P32E2) {
+        stallhitch_q32e2_add_product(&mut self.0, a.to_bits(), b.to_bits());
+    }
+
+    #[inline]
+    pub fn sub_product(&mut self, a: P32E2, b: P32E2) {
+        stallhitch_q32e2_sub_product(&mut self.0, a.to_bits(), b.to_bits());
+    }
+
+    #[inline]
+    pub fn clear(&mut self) {
+        stallhitch_q32e2_clear(&mut self.0);
+    }
+
+    /// The negative of the total, in place; NaR stays NaR.
+    #[inline]
+    pub fn neg(&mut self) {
+        stallhitch_q32e2_neg(&mut self.0);
+    }
+
+    /// The total in two parts: its rounding, and the rounding of what that leaves.
+    #[inline]
+    pub fn into_two_posits(mut self) -> (P32E2, P32E2) {
+        let first = self.to_posit();
+        self -= first;
+        (first, self.to_posit())
+    }
+
+    /// The total in three parts.
+    #[inline]
+    pub fn into_three_posits(mut self) -> (P32E2, P32E2, P32E2) {
+        let first = self.to_posit();
+        self -= first;
+        let (second, third) = self.into_two_posits();
+        (first, second, third)
+    }
+}
+
+impl ops::AddAssign<P32E2> for Q32E2 {
+    #[inline]
+    fn add_assign(&mut self, p: P32E2) {
+        stallhitch_q32e2_add_posit(&mut self.0, p.to_bits());
+    }
+}
+
+impl ops::SubAssign<P32E2> for Q32E2 {
+    #[inline]
+    fn sub_assign(&mut self, p: P32E2) {
+        stallhitch_q32e2_sub_posit(&mut self.0, p.to_bits());
+    }
+}
+
+/// The exact product of the pair is added.
+impl ops::AddAssign<(P32E2, P32E2)> for Q32E2 {
+    #[inline]
+    fn add_assign(&mut self, pair: (P32E2, P32E2)) {
+        self.add_product(pair.0, pair.1);
+    }
+}
+
+/// The exact product of the pair is taken.
+impl ops::SubAssign<(P32E2, P32E2)> for Q32E2 {
+    #[inline]
+    fn sub_assign(&mut self, pair: (P32E2, P32E2)) {
+        self.sub_product(pair.0, pair.1);
+    }
+}
