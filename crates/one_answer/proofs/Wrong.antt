@@ -13,6 +13,7 @@ use Rattle.quire_words.specs.Words.{wide}
 use Rattle.desk.specs.Answers.{writeNumber, readNumber, batchNumber, claimNumber}
 use Rattle.one_answer.proofs.Engines.{NoConstant, NotAlways, constant-fails, always-fails}
 use Rattle.one_answer.proofs.Accumulator.{quire32-add-product-fixes, quire32-sub-product-fixes, quire32-add-posit-fixes, quire32-sub-posit-fixes}
+use Rattle.one_answer.proofs.Desk.{desk-lent-write-image-fixes, desk-lent-read-image-fixes, desk-lent-add-batch-fixes}
 use Rattle.p32e2.specs.declared.P32E2.{P32E2}
 use Rattle.p32e2.proofs as p32e2
 use Rattle.quire_steps.proofs as quire-steps
@@ -180,3 +181,20 @@ desk-write-image-not-idle = always-fails _ (λ κs a x u p. ap (number 256) (p .
 pub desk-read-image-not-idle : NotAlways desk.image.read_image.ended (λ κs a r u. wide (r .words)) (λ κs a. Unit {0}) (λ κs a. wide (a .0)) desk.image.read_image.Reads.Pre desk.image.read_image.Reads.Post
 unfolding everything
 desk-read-image-not-idle = always-fails _ (λ κs a x u p. ap wide (p .1)) ([], tt) (eight 0, (to (bytes 1), tt)) tt tt tt
+
+-- ---- the same of the functions that are lent the accumulator
+pub desk-lent-write-image-not-idle : NotAlways desk.lent.write_image.ended (λ κs a r u. number 256 (u .1 .0)) (λ κs a. Unit {0}) (λ κs a. number 256 (a .1 .0 .now)) (λ κs a. Unit {0}) (desk-lent-write-image-fixes .0)
+unfolding everything desk-lent-write-image-fixes
+desk-lent-write-image-not-idle = always-fails _ (λ κs a x u p. ap (number 256) (p .1)) ([], ([], tt)) (to (record { 0 = eight 0 }), (to (bytes 1), tt)) tt tt tt
+
+pub desk-lent-read-image-not-idle : NotAlways desk.lent.read_image.ended (λ κs a r u. wide (u .0 .0)) (λ κs a. Unit {0}) (λ κs a. wide (a .0 .now .0)) (λ κs a. Unit {0}) (desk-lent-read-image-fixes .0)
+unfolding everything desk-lent-read-image-fixes
+desk-lent-read-image-not-idle = always-fails _ (λ κs a x u p. ap wide (p .1)) ([], ([], tt)) (to (record { 0 = eight 0 }), (to (bytes 1), tt)) tt tt tt
+
+pub desk-lent-add-batch-not-idle : NotAlways desk.lent.add_batch.ended (λ κs a r u. wide (u .0 .0)) (λ κs a. Unit {0}) (λ κs a. wide (a .0 .now .0)) (λ κs a. Unit {0}) (desk-lent-add-batch-fixes .0)
+unfolding everything desk-lent-add-batch-fixes
+desk-lent-add-batch-not-idle = always-fails _ (λ κs a x u p. ap wide (p .1)) ([], ([], ([], tt))) (to (record { 0 = eight 0 }), (to (1 ∷ 1 ∷ []), (to (1 ∷ 1 ∷ []), tt))) tt tt tt
+
+pub desk-lent-add-batch-not-first-only : NotAlways desk.lent.add_batch.ended (λ κs a r u. wide (u .0 .0)) (λ κs a. Unit {0}) (λ κs a. wide (words 512 (afterBatch 2 31 512 (fromWords 512 (a .0 .now .0)) (take 1 (a .1 .0 .now)) (take 1 (a .1 .1 .0 .now))))) (λ κs a. Unit {0}) (desk-lent-add-batch-fixes .0)
+unfolding everything desk-lent-add-batch-fixes
+desk-lent-add-batch-not-first-only = always-fails _ (λ κs a x u p. ap wide (p .1)) ([], ([], ([], tt))) (to (record { 0 = eight 0 }), (to (1 ∷ 1 ∷ []), (to (1 ∷ 1 ∷ []), tt))) tt tt tt
