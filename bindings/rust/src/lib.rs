@@ -18,10 +18,15 @@
 //! Every answer is proved to be the one that the Posit Standard (2022) gives; `docs/DIFFERENCES.md` of the repository lists where
 //! softposit 0.4.0 answers otherwise. Two things differ for the compiler: functions are not `const`, and of softposit's traits only
 //! the operators are here.
+//!
+//! What softposit has not: the image of an accumulator, batches of products, and the check of a claim about one. Each says no by a
+//! [`Refusal`].
 
+mod desk;
 pub mod ffi;
 mod p32e2;
 mod q32e2;
 
+pub use desk::{check_claim, Refusal};
 pub use p32e2::P32E2;
 pub use q32e2::Q32E2;

@@ -17,7 +17,7 @@ use core::ops;
 /// The words count units of 2^-240 in two's complement, word 0 most significant. A NaR operand, or a total outside ±(2^511 - 1)
 /// units, makes NaR, and no step leads out of it; `clear` does.
 #[derive(Clone, Debug, PartialEq, Eq)]
-pub struct Q32E2([u64; 8]);
+pub struct Q32E2(pub(crate) [u64; 8]);
 
 impl Q32E2 {
     pub const ZERO: Self = Self([0; 8]);
