@@ -16,6 +16,9 @@ const INPUTS: usize = 1 << 16;
 /// How many states are rounded, each after one more product.
 const STATES: usize = 1 << 14;
 
+/// How many pairs a batch has: the most that it may have.
+const PAIRS: usize = 1 << 14;
+
 fn p(bits: u32) -> P32E2 {
     P32E2::from_bits(bits)
 }
@@ -42,6 +45,8 @@ fn main() {
     bench.step("sub_product", product(stallhitch_q32e2_sub_product), |q, a, b| q.sub_product(p(a), p(b)));
     bench.step("add_posit", posit(stallhitch_q32e2_add_posit), |q, a, _| *q += p(a));
     bench.to_posit();
+    bench.batch();
+    bench.claim();
     bench.tables();
 }
 
@@ -210,6 +215,39 @@ impl Bench {
         self.steps.push(format!("| `{name}` | {} |", spread.row()));
     }
 
+    /// A whole batch from clear, against a loop of the source's steps.
+    fn batch(&mut self) {
+        self.whole("batch", |a, b, _| our_batch(a, b), |a, b, _| their_batch(a, b));
+    }
+
+    /// A right claim about a whole batch. The source has no claim check: its side is the loop, the image, and its comparison.
+    fn claim(&mut self) {
+        self.whole("check_claim", our_answer, |a, b, claim| [(image(&their_batch(a, b)) != *claim) as u64; 8]);
+    }
+
+    /// What is done once with all pairs of a batch. The figures are for one pair.
+    fn whole(&mut self, name: &str, ours: Whole, theirs: Whole) {
+        let [ours, theirs] = [black_box(ours), black_box(theirs)];
+        let mut spread = Spread::new();
+        for mix in MIXES {
+            let (a, b): (Vec<u32>, Vec<u32>) = mix.triples(PAIRS).iter().map(|&[a, b, _]| (a, b)).unzip();
+            let claim = image(&their_batch(&a, &b));
+            self.differ(name, mix.name, (ours(&a, &b, &claim) != theirs(&a, &b, &claim)) as usize, 1);
+            let times = self.best(
+                PAIRS,
+                || {
+                    black_box(ours(&a, &b, &claim));
+                },
+                || {
+                    black_box(theirs(&a, &b, &claim));
+                },
+            );
+            self.line(name, mix.name, "a pair", times);
+            spread.add(times);
+        }
+        self.steps.push(format!("| `{name}`, a pair of {PAIRS} | {} |", spread.row()));
+    }
+
     fn tables(&self) {
         println!("\n| operation | throughput, ours | ratio over the mixes | latency, ours | ratio over the mixes |");
         println!("|---|---|---|---|---|");
@@ -217,6 +255,34 @@ impl Bench {
         println!("\n| accumulator | ours | ratio over the mixes |\n|---|---|---|");
         self.steps.iter().for_each(|row| println!("{row}"));
     }
+}
+
+/// From two lists of patterns and a claim, the words of the batch, or the answer to the claim eight times.
+type Whole = fn(&[u32], &[u32], &[u8; 64]) -> [u64; 8];
+
+fn our_batch(a: &[u32], b: &[u32]) -> [u64; 8] {
+    let mut q = [0; 8];
+    // SAFETY: each pointer has the length of its slice beside it
+    unsafe { stallhitch_add_batch(&mut q, a.as_ptr(), a.len(), b.as_ptr(), b.len()) };
+    q
+}
+
+fn our_answer(a: &[u32], b: &[u32], claim: &[u8; 64]) -> [u64; 8] {
+    // SAFETY: as above
+    [unsafe { stallhitch_check_claim(a.as_ptr(), a.len(), b.as_ptr(), b.len(), claim.as_ptr(), claim.len()) }.into(); 8]
+}
+
+fn their_batch(a: &[u32], b: &[u32]) -> [u64; 8] {
+    let mut q = Q32E2::init();
+    a.iter().zip(b).for_each(|(&a, &b)| q.add_product(p(a), p(b)));
+    q.to_bits()
+}
+
+/// Word 0 first, each word high byte first.
+fn image(words: &[u64; 8]) -> [u8; 64] {
+    let mut bytes = [0; 64];
+    bytes.chunks_exact_mut(8).zip(words).for_each(|(eight, word)| eight.copy_from_slice(&word.to_be_bytes()));
+    bytes
 }
 
 fn independent(inputs: &[[u32; 3]], f: impl Fn(u32, u32, u32) -> u32) {
