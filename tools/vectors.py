@@ -381,10 +381,15 @@ def printed():
     return out + ["    ∷ []"]
 
 
-build()
-if sys.argv[1:] == ["--check"]:
-    stored = open("crates/posit/proofs/Vectors.antt", encoding="utf-8").read().split("vectors =\n")[1].split("\n\n")[0]
-    same = stored == "\n".join(printed())
-    print("the same" if same else "not the same")
-    sys.exit(not same)
-print("\n".join(printed()))
+def main():
+    build()
+    if sys.argv[1:] == ["--check"]:
+        stored = open("crates/posit/proofs/Vectors.antt", encoding="utf-8").read().split("vectors =\n")[1].split("\n\n")[0]
+        same = stored == "\n".join(printed())
+        print("the same" if same else "not the same")
+        sys.exit(not same)
+    print("\n".join(printed()))
+
+
+if __name__ == "__main__":
+    main()
