@@ -251,3 +251,73 @@ pub fn judged(total: Option<Signed>) -> State {
 pub fn to_posit(q: State) -> u32 {
     rounded(q)
 }
+
+/// The state that a batch leads to: one step for each pair, from the front (4.11).
+pub fn batch(q: State, a: &[u32], b: &[u32]) -> State {
+    a.iter().zip(b).fold(q, |q, (&a, &b)| judged(moved(q, product(a, b), true)))
+}
+
+pub type Image = [u8; 64];
+
+/// 4.10
+pub fn image(q: State) -> Image {
+    let words = to_words(q);
+    std::array::from_fn(|i| (words[i / 8] >> (56 - 8 * (i % 8))) as u8)
+}
+
+/// 4.10
+pub fn from_image(bytes: &Image) -> State {
+    let mut words = [0; 8];
+    for (i, &byte) in bytes.iter().enumerate() {
+        words[i / 8] = words[i / 8] * 256 + byte as u64;
+    }
+    from_words(words)
+}
+
+// Section 5: the number of the refusal that is due, 0 for none.
+
+pub const MOST_PAIRS: usize = 16_384;
+
+/// 5.1, of bytes that are read
+pub fn read_refusal(length: usize) -> u32 {
+    if length == 64 {
+        0
+    } else {
+        1
+    }
+}
+
+/// 5.2
+pub fn write_refusal(length: usize) -> u32 {
+    if length < 64 {
+        2
+    } else {
+        0
+    }
+}
+
+/// 5.3 before 5.4
+pub fn batch_refusal(a: usize, b: usize) -> u32 {
+    if a != b {
+        3
+    } else if a > MOST_PAIRS {
+        4
+    } else {
+        0
+    }
+}
+
+/// 5.6: 3, 4, 1, 5. `rebuilt` is the image of the batch from zero.
+pub fn claim_refusal(a: usize, b: usize, rebuilt: &Image, claim: &[u8]) -> u32 {
+    if a != b {
+        3
+    } else if a > MOST_PAIRS {
+        4
+    } else if claim.len() != 64 {
+        1
+    } else if claim != rebuilt {
+        5
+    } else {
+        0
+    }
+}

@@ -10,6 +10,8 @@ pub enum Shown {
     Words([u64; 8]),
     Answer(bool),
     Parts(Vec<u32>),
+    /// The number of a refusal, 0 for none, and the words after it.
+    After(u32, [u64; 8]),
     Panic(String),
 }
 
@@ -24,6 +26,7 @@ impl fmt::Display for Shown {
             }
             Shown::Answer(b) => write!(f, "{b}"),
             Shown::Parts(p) => write!(f, "{}", p.iter().map(|x| format!("0x{x:08X}")).collect::<Vec<_>>().join(", ")),
+            Shown::After(n, w) => write!(f, "{n} {}", Shown::Words(*w)),
             Shown::Panic(m) => write!(f, "panic: {m}"),
         }
     }
@@ -52,7 +55,10 @@ impl Input<'_> {
 impl fmt::Display for Input<'_> {
     fn fmt(&self, f: &mut fmt::Formatter) -> fmt::Result {
         let mut all: Vec<String> = self.words.iter().map(|w| Shown::Words(*w).to_string()).collect();
-        all.extend(self.patterns.iter().map(|p| Shown::Pattern(*p).to_string()));
+        all.extend(self.patterns.iter().take(MOST_PATTERNS).map(|p| Shown::Pattern(*p).to_string()));
+        if self.patterns.len() > MOST_PATTERNS {
+            all.push(format!("... {} patterns", self.patterns.len()));
+        }
         write!(f, "{}({})", self.name, all.join(", "))
     }
 }
@@ -74,6 +80,7 @@ pub struct Report {
 }
 
 const MOST_SHOWN: u64 = 20;
+const MOST_PATTERNS: usize = 32;
 
 impl Report {
     pub fn inputs(&self) -> u64 {
@@ -91,10 +98,7 @@ impl Report {
     ) {
         *self.compared.entry(input.name).or_default() += 1;
         if ours != model {
-            self.wrong += 1;
-            if self.wrong <= MOST_SHOWN {
-                println!("OURS IS WRONG: {input}: ours {ours}, model {model}, source {theirs}");
-            }
+            self.wrong(|| format!("{input}: ours {ours}, model {model}, source {theirs}"));
         }
         if ours == theirs {
             return;
@@ -114,9 +118,30 @@ impl Report {
         }
     }
 
+    /// One comparison of ours with the model alone, where the source has nothing of the kind.
+    pub fn check<T: PartialEq + fmt::Debug>(
+        &mut self,
+        name: &'static str,
+        input: impl FnOnce() -> String,
+        ours: T,
+        model: T,
+    ) {
+        *self.compared.entry(name).or_default() += 1;
+        if ours != model {
+            self.wrong(|| format!("{name}({}): ours {ours:X?}, model {model:X?}", input()));
+        }
+    }
+
+    pub fn wrong(&mut self, text: impl FnOnce() -> String) {
+        self.wrong += 1;
+        if self.wrong <= MOST_SHOWN {
+            println!("OURS IS WRONG: {}", text());
+        }
+    }
+
     /// Prints it all; true where ours was right and nothing stays unexplained.
-    pub fn finish(&self) -> bool {
-        println!("Inputs compared: {}", self.inputs());
+    pub fn finish(&self, of: &str) -> bool {
+        println!("Inputs {of}compared: {}", self.inputs());
         for (name, n) in &self.compared {
             println!("  {n:>10}  {name}");
         }
