@@ -20,7 +20,7 @@ fn image(q: &Q32E2) -> [u8; 64] {
 
 /// Patterns near 1 of both signs.
 fn list(n: usize, step: u32) -> Vec<P32E2> {
-    (0..n as u32).map(|i| p(0x3800_0000 + i.wrapping_mul(step) % (1 << 28) + (i % 2 << 31))).collect()
+    (0..n as u32).map(|i| p(0x3800_0000 + i.wrapping_mul(step) % (1 << 28) + ((i % 2) << 31))).collect()
 }
 
 #[test]
