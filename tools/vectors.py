@@ -1,15 +1,15 @@
 #!/usr/bin/env python3
-"""Works out the cases of crates/posit/proofs/Vectors.antt.
+"""Works out the cases of proofs/Vectors.antt of the crates that define something: posit and desk.
 
 How the list was made. The inputs below were chosen by hand, except FUSED: those were searched for at random, until rounding the
 product first gave another answer. The answers are worked out here with exact rationals, from the Posit Standard (2022), with any
-es where it has 2, and in other steps than the definitions in crates/posit/specs take: a pattern is read as a string of bits with
+es where it has 2, and in other steps than the definitions take: a pattern is read as a string of bits with
 the standard's formula, which has no two's complement in it; rounding halves an interval of patterns and compares values as
 rationals; words and images are Python's own signed integers in bytes. The accumulator's range and the desk's numbers are no part
 of the standard. They follow our own rules, and some of the desk's answers are just written down.
 
-    python3 tools/vectors.py          prints the cases
-    python3 tools/vectors.py --check  says whether Vectors.antt holds just these cases, line for line
+    python3 tools/vectors.py CRATE    prints the cases of a crate
+    python3 tools/vectors.py --check  says of each crate whether its Vectors.antt holds just these cases, line for line
 """
 import sys
 from fractions import Fraction
@@ -178,7 +178,7 @@ def lists(*xs):
 
 
 def shown(x):
-    """How `shown` of Vectors.antt tells a whole number: 1 for below 0, then the size."""
+    """How `shown` of Table.antt tells a whole number: 1 for below 0, then the size."""
     return [int(x < 0), abs(x)]
 
 
@@ -188,11 +188,11 @@ def state(t):
 
 
 def held(t):
-    """How `held` of Vectors.antt tells a state: nothing for NaR, else as `shown`."""
+    """How `held` of Table.antt tells a state: nothing for NaR, else as `shown`."""
     return [] if t is None else shown(t)
 
 
-table = []
+table = []    # of the crate that is being built
 
 
 def group(text):
@@ -252,7 +252,7 @@ BATCH = {
     (32, 2): ([0x00000003, 0x32aaaaab, 0xcd555555], [0x00000001, 0x4c000000, 0x9abcdef0])}
 
 
-def build():
+def posit():
     group("values, told in units of the smallest size: plain ones of both signs, the ends, and exponents cut off by the end of the word")
     for n, es in SIZES:
         u = 2 ** es * (n - 2)
@@ -338,20 +338,24 @@ def build():
         case(f"held ({'plus' if d > 0 else 'minus'} 512 {state(t)} (ofProduct 2 31 0x1 0x1))", held(kept(512, t + d)))
     case("held (plus 512 notReal (total (pos 1)))", held(None))
     case("held (minus 512 (total (pos 1)) (ofPosit 2 31 0x80000000))", held(None))
-    group("a batch at each size: its total, and the three parts of it; the first part is the total rounded")
+    group("three parts of a total at each size; the first part is the total rounded")
     for n, es in SIZES:
-        xs, ys = BATCH[n, es]
-        bits, t = 16 * n, batch(n, es, 16 * n, 0, xs, ys)
-        ran = f"(batch {es} {n - 1} {bits} clear ({row(xs, n)}) ({row(ys, n)}))"
-        case(f"held {ran}", held(t))
-        case(f"partsOf {es} {n - 1} {bits} 3 {ran}", parts_of(n, es, bits, 3, t), n)
-    group("the range is judged after each pair, in 26 bits: out of it and back is NaR, the other order is not; a NaR operand; no pairs")
-    for xs, ys in (([0x7f, 0x7f, 0x81], [0x7f] * 3), ([0x7f, 0x81, 0x7f], [0x7f] * 3), ([0x80, 0x40], [0x00, 0x40]), ([], [])):
-        case(f"held (batch 0 7 26 (total (pos 5)) {arg(row(xs, 8))} {arg(row(ys, 8))})", held(batch(8, 0, 26, 5, xs, ys)))
+        bits, t = 16 * n, batch(n, es, 16 * n, 0, *BATCH[n, es])
+        case(f"partsOf {es} {n - 1} {bits} 3 {state(t)}", parts_of(n, es, bits, 3, t), n)
     group("totals rounded: one unit, below 0 too; just above the cut between the two largest; the limit of the range; NaR, also in parts")
     for t in (1, -1, 2 ** 358 + 1, 1 - 2 ** 511, None):
         case(f"toPosit 2 31 {state(t)}", to_posit(32, 2, t), 32)
     case("partsOf 2 31 512 2 notReal", parts_of(32, 2, 512, 2, None), 32)
+
+
+def desk():
+    group("a batch at each size")
+    for n, es in SIZES:
+        xs, ys = BATCH[n, es]
+        case(f"held (batch {es} {n - 1} {16 * n} clear ({row(xs, n)}) ({row(ys, n)}))", held(batch(n, es, 16 * n, 0, xs, ys)))
+    group("the range is judged after each pair, in 26 bits: out of it and back is NaR, the other order is not; a NaR operand; no pairs")
+    for xs, ys in (([0x7f, 0x7f, 0x81], [0x7f] * 3), ([0x7f, 0x81, 0x7f], [0x7f] * 3), ([0x80, 0x40], [0x00, 0x40]), ([], [])):
+        case(f"held (batch 0 7 26 (total (pos 5)) {arg(row(xs, 8))} {arg(row(ys, 8))})", held(batch(8, 0, 26, 5, xs, ys)))
 
     group("the desk, numbers 1 to 4: images of 63, 64 and 65 bytes, buffers of these lengths, and lists about as long as is allowed")
     together(None, [(f"lengthRefusal 512 (replicate {k} 0)", 0 if k == 64 else 1) for k in (63, 64, 65)])
@@ -359,7 +363,7 @@ def build():
     for a, b in ((2, 1), (16384, 16384), (16385, 16385), (16385, 16384)):
         case(f"batchRefusal (replicate {a} 0) (replicate {b} 0)", claim_number(32, 2, 512, [0] * a, [0] * b, image(512, 0)))
     group("a claim: 3 and 4 come before 1, 1 before 5, a wrong byte gives 5, and a right one gives no number, NaR too")
-    ones, i1 = [0x40000000], image(512, one)
+    ones, i1 = [0x40000000], image(512, 2 ** unit(32, 2))
     for xs, ys, claim in (([0, 0], [0], [0] * 63), ([0] * 16385, [0] * 16385, [0] * 63), (ones, ones, [0] * 63), (ones, ones, i1[:63] + [1]),
                           (ones, ones, i1), (ones, [0x80000000], image(512, None)), ([], [], [0] * 64)):
         case(f"claimRefusal 2 31 512 {lists(xs, ys)} {arg(row(claim))}", claim_number(32, 2, 512, xs, ys, claim))
@@ -381,14 +385,23 @@ def printed():
     return out + ["    ∷ []"]
 
 
+CRATES = {"posit": posit, "desk": desk}
+
+
+def cases_of(crate):
+    table.clear()
+    CRATES[crate]()
+    return "\n".join(printed())
+
+
 def main():
-    build()
     if sys.argv[1:] == ["--check"]:
-        stored = open("crates/posit/proofs/Vectors.antt", encoding="utf-8").read().split("vectors =\n")[1].split("\n\n")[0]
-        same = stored == "\n".join(printed())
-        print("the same" if same else "not the same")
-        sys.exit(not same)
-    print("\n".join(printed()))
+        wrong = [c for c in CRATES if open(f"crates/{c}/proofs/Vectors.antt", encoding="utf-8").read().split("vectors =\n")[1].split("\n\n")[0] != cases_of(c)]
+        print("\n".join(f"{c}: {'not the same' if c in wrong else 'the same'}" for c in CRATES))
+        sys.exit(bool(wrong))
+    if len(sys.argv) != 2 or sys.argv[1] not in CRATES:
+        sys.exit(__doc__)
+    print(cases_of(sys.argv[1]))
 
 
 if __name__ == "__main__":

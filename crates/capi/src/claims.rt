@@ -1,7 +1,7 @@
 // The desk: the number of the refusal is the answer, 0 for none. What was lent is as it was wherever a number is answered.
 ghost use mathlib.Core.Path.{_≡_};
 ghost use Rattle.posit.specs.Accumulator.{words, fromWords};
-ghost use Rattle.posit.specs.Desk.{lengthRefusal, bufferRefusal, batchRefusal, claimRefusal, writtenTo, readInto, afterBatch};
+ghost use Rattle.desk.specs.Desk.{lengthRefusal, bufferRefusal, batchRefusal, claimRefusal, writtenTo, readInto, afterBatch};
 use desk::batch::add_batch;
 use desk::claim::check_claim;
 use desk::image::read_image;

@@ -3,3 +3,5 @@ pub mod Spelt
 pub mod Summed
 pub mod Refused
 pub mod Solids
+pub mod Computing
+mod Vectors

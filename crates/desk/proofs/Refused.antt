@@ -7,9 +7,10 @@ use Prim.Native.Nat.{ℕ, _+_, _≤_, _<_}
 use borrow.Author.Tests.{eq-eqb, ne-eqb, lt-ltb, le-ltb}
 use lib.Dec.{eqb}
 use lib.ListN.{length, drop}
-use Rattle.posit.specs.Digits.{number}
-use Rattle.posit.specs.Accumulator.{State, clear, batch, image, words, fromWords, fromImage, stateOf}
-use Rattle.posit.specs.Desk.{pairLimit, lengthRefusal, bufferRefusal, batchRefusal, same, claimRefusal, writtenTo, readInto, afterBatch}
+use Rattle.posit.specs.Digits.{number, same}
+use Rattle.posit.specs.Accumulator.{State, clear, image, words, fromWords, fromImage, stateOf}
+use Rattle.desk.specs.Batch.{batch}
+use Rattle.desk.specs.Desk.{pairLimit, lengthRefusal, bufferRefusal, batchRefusal, claimRefusal, writtenTo, readInto, afterBatch}
 use Rattle.quire_words.specs.Words.{wide}
 
 -- ---- a batch

@@ -10,9 +10,9 @@ use lib.Dec.{eqb, lit<}
 use lib.ListN.{length, getD, drop, set, length-set, replicate, drop-of-length-le}
 use lib.Pow.{pow-add}
 use lib.Seq.{drop-cons, getD-set-other}
-use Rattle.posit.specs.Digits.{number}
-use Rattle.posit.specs.Accumulator.{State, clear, plus, ofProduct, batch, words, fromWords}
-use Rattle.posit.specs.Desk.{same}
+use Rattle.posit.specs.Digits.{number, same}
+use Rattle.posit.specs.Accumulator.{State, clear, plus, ofProduct, words, fromWords}
+use Rattle.desk.specs.Batch.{batch}
 use Rattle.quire_words.specs.Words.{wide}
 use Rattle.quire_words.proofs.Places.{number-none, number-drop}
 use Rattle.quire_steps.proofs.Moved.{pow-mul, set-adds}

@@ -1,3 +1,5 @@
--- What the answers of the desk mean.
+-- What a batch is, when the desk says no, and what its answers mean.
+pub mod Batch
+pub mod Desk
 pub mod Answers
 pub mod Bytes

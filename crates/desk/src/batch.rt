@@ -1,8 +1,9 @@
 // A batch: the exact product of each pair of two lists, added from the front. The range is judged after each pair.
 ghost use mathlib.Core.Path.{_≡_};
 ghost use lib.ListN.{length};
-ghost use Rattle.posit.specs.Accumulator.{batch, words, fromWords};
-ghost use Rattle.posit.specs.Desk.{batchRefusal, afterBatch};
+ghost use Rattle.posit.specs.Accumulator.{words, fromWords};
+ghost use Rattle.desk.specs.Batch.{batch};
+ghost use Rattle.desk.specs.Desk.{batchRefusal, afterBatch};
 ghost use Rattle.desk.specs.Answers.{batchNumber};
 use p32e2::P32E2;
 use quire_steps::add_product;

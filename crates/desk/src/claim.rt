@@ -1,7 +1,8 @@
 // A claim against a batch: nothing of the claim is parsed. The batch is run from zero, its image is formed in memory of its own, and all 64 bytes are compared.
 ghost use mathlib.Core.Path.{_≡_};
 ghost use lib.ListN.{length};
-ghost use Rattle.posit.specs.Desk.{same, claimRefusal};
+ghost use Rattle.posit.specs.Digits.{same};
+ghost use Rattle.desk.specs.Desk.{claimRefusal};
 ghost use Rattle.desk.specs.Answers.{claimNumber};
 use super::batch::PAIR_LIMIT;
 use super::batch::sum_of;

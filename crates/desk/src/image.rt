@@ -4,7 +4,7 @@ ghost use Prim.Native.Nat.{_+_, _-_, _*_, _/_, _%_, _^_, _≤_, _<_};
 ghost use lib.ListN.{length};
 ghost use Rattle.posit.specs.Digits.{number};
 ghost use Rattle.posit.specs.Accumulator.{words, fromWords, image};
-ghost use Rattle.posit.specs.Desk.{lengthRefusal, bufferRefusal, writtenTo, readInto};
+ghost use Rattle.desk.specs.Desk.{lengthRefusal, bufferRefusal, writtenTo, readInto};
 ghost use Rattle.quire_words.specs.Words.{wide};
 ghost use Rattle.desk.specs.Answers.{writeNumber, readNumber};
 ghost use Rattle.desk.specs.Bytes.{Leading};

@@ -1,7 +1,7 @@
 // The same for an accumulator that is lent: it is taken apart, the function over its words is called, and what comes back is stored.
 ghost use mathlib.Core.Path.{_≡_};
 ghost use Rattle.posit.specs.Accumulator.{words, fromWords};
-ghost use Rattle.posit.specs.Desk.{lengthRefusal, bufferRefusal, batchRefusal, writtenTo, readInto, afterBatch};
+ghost use Rattle.desk.specs.Desk.{lengthRefusal, bufferRefusal, batchRefusal, writtenTo, readInto, afterBatch};
 ghost use Rattle.desk.specs.Answers.{writeNumber, readNumber, batchNumber};
 use super::batch;
 use super::batch::BatchAnswer;

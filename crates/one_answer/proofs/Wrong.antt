@@ -5,10 +5,10 @@ use Prim.Native.Nat.{ℕ, _^_}
 use lib.Dec.{T, ltb}
 use lib.ListN.{length, take}
 use denote.Ref.{RefT}
-use Rattle.posit.specs.Computing.{everything}
+use Rattle.desk.proofs.Computing.{everything}
 use Rattle.posit.specs.Digits.{digits, number}
 use Rattle.posit.specs.Accumulator.{words, fromWords}
-use Rattle.posit.specs.Desk.{afterBatch}
+use Rattle.desk.specs.Desk.{afterBatch}
 use Rattle.quire_words.specs.Words.{wide}
 use Rattle.desk.specs.Answers.{writeNumber, readNumber, batchNumber, claimNumber}
 use Rattle.one_answer.proofs.Engines.{NoConstant, NotAlways, constant-fails, always-fails}

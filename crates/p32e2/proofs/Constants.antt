@@ -3,7 +3,7 @@ use mathlib.Core.Path.{_≡_, refl}
 use Prim.Native.Nat.{ℕ, _+_, _-_, _^_}
 use lib.IntN.{ℤ, pos, negℤ}
 use Rattle.posit.specs.Pattern.{opposite, value}
-use Rattle.posit.specs.Computing.{everything}
+use Rattle.posit.proofs.Computing.{everything}
 use Rattle.p32e2.specs.Constants.{one, largest, smallest}
 
 abbrev worth : ℕ → ℤ

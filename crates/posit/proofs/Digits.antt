@@ -1,13 +1,15 @@
--- Digits to any base B above 0 and of any count: how many there are and how large, and that digits and number undo each other. Digits and their number
+-- Digits to any base B above 0 and of any count: how many there are and how large, and that digits and number undo each other; lists that are the same are equal. Digits and their number
 -- meet at the first digit: what stands above the digits that are asked for does not matter (`digits-past`).
-use mathlib.Core.Path.{_≡_, refl, sym, ap, _∙_}
+use mathlib.Core.Path.{_≡_, refl, sym, ap, ap₂, _∙_}
+use mathlib.Core.Bool.{Bool, true, false, _&&_}
 use mathlib.Core.List.{List, [], _∷_}
 use Prim.Native.Nat.{ℕ, zero, suc, _+_, _*_, _/_, _%_, _^_, _<_}
 use native.Mathlib.Nat.{mul-assoc, pow-zero, pow-succ' as pow-suc', pow-suc, mod-lt, mod-one, mod-eq-of-lt, div-add-mod', mul-add-div-right, mul-add-mod-self-right, mul-pos}
 use native.Mathlib.Omega.{arith}
+use lib.Dec.{T, eqb, eqb→eq}
 use lib.Arith.{digits-lt, digits-div, digits-mod}
 use lib.ListN.{length}
-use Rattle.posit.specs.Digits.{digits, number, Below}
+use Rattle.posit.specs.Digits.{digits, number, Below, same}
 
 pub length-digits : (B c n : ℕ) → length (digits B c n) ≡ c
 unfolding digits
@@ -54,3 +56,18 @@ module _ (B : ℕ) (base : 0 < B) where
   unfolding digits number
   number-digits zero n = rw pow-zero (sym (mod-one n))
   number-digits (suc c) n = rw (length-digits B c n, number-digits c n, pow-suc') (mod-more (B ^ c) n (power-pos c))
+
+-- ---- lists that are the same are equal
+
+both-true : (a b : Bool) → T (a && b) → T a × T b
+both-true true b h = (tt, h)
+both-true false b h = absurd h
+
+pub same-equal : (xs ys : List ℕ) → T (same xs ys) → xs ≡ ys
+unfolding same
+same-equal [] [] h = refl
+same-equal [] (y ∷ ys) h = absurd h
+same-equal (x ∷ xs) [] h = absurd h
+same-equal (x ∷ xs) (y ∷ ys) h =
+    let k = both-true (eqb x y) (same xs ys) h in
+    ap₂ _∷_ (eqb→eq x y (k .0)) (same-equal xs ys (k .1))

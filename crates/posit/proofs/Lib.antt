@@ -20,6 +20,7 @@ pub mod Quotient
 pub mod Digits
 pub mod Complement
 pub mod State
-mod Table
+pub mod Computing
+pub mod Table
 mod Sheet
 mod Vectors

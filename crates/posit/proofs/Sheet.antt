@@ -4,7 +4,7 @@ use mathlib.Core.List.{List, [], _∷_}
 use Prim.Native.Nat.{ℕ}
 use lib.Dec.{T}
 use Rattle.posit.specs.Operation.{sum, product, quotient, squareRoot, fusedSum, fusedDifference}
-use Rattle.posit.specs.Computing.{everything}
+use Rattle.posit.proofs.Computing.{everything}
 use Rattle.posit.specs.Accumulator.{clear, isClear, plus, ofProduct, words}
 use Rattle.posit.proofs.Table.{Case, is, are, holds}
 

@@ -1,9 +1,12 @@
--- A table of cases under one claim: each case is an answer of the definitions beside what it has to be, and the claim is computed.
+-- A table of cases under one claim: each case is an answer of the definitions beside what it has to be, and the claim is computed. `shown` and `held` tell
+-- a number with its sign and a state as lists.
 use mathlib.Core.Bool.{Bool, true, _&&_}
 use mathlib.Core.List.{List, [], _∷_}
-use Prim.Native.Nat.{ℕ}
+use Prim.Native.Nat.{ℕ, suc}
 use lib.Dec.{eqb}
-use Rattle.posit.specs.Desk.{same}
+use lib.IntN.{ℤ, pos, negsuc}
+use Rattle.posit.specs.Digits.{same}
+use Rattle.posit.specs.Accumulator.{State, notReal, total}
 
 pub data Case : Type 0 where
   is : ℕ → ℕ → Case
@@ -13,3 +16,13 @@ unfoldable pub holds : List Case → Bool
 holds [] = true
 holds (is a b ∷ cs) = eqb a b && holds cs
 holds (are a b ∷ cs) = same a b && holds cs
+
+-- a number with its sign: 1 for below 0, then the size
+abbrev pub shown : ℤ → List ℕ
+shown (pos n) = 0 ∷ n ∷ []
+shown (negsuc n) = 1 ∷ suc n ∷ []
+
+-- a state: nothing for NaR
+abbrev pub held : State → List ℕ
+held notReal = []
+held (total t) = shown t

@@ -1,8 +1,8 @@
--- Values, roundings, operations, totals and refusals at four sizes, in one table under one claim that the checker computes: es 0 and w 7, es 1
+-- Values, roundings, operations and totals at four sizes, in one table under one claim that the checker computes: es 0 and w 7, es 1
 -- and w 15, es 2 and w 15, es 2 and w 31. It shows that the definitions agree with answers worked out without them. The list was made by
 -- tools/vectors.py, which says how the inputs were chosen: it works with exact rationals from the Posit Standard (2022), and for the
--- accumulator's range and the desk from our own rules. `python3 tools/vectors.py` prints the cases, and with `--check` it says whether those
--- below are the same, line for line.
+-- accumulator's range from our own rule. `python3 tools/vectors.py posit` prints the cases, and with `--check` it says whether those below are
+-- the same, line for line.
 use mathlib.Core.Bool.{cond}
 use mathlib.Core.List.{List, [], _∷_, _++_}
 use Prim.Native.Nat.{ℕ, suc, _+_, _-_, _*_, _^_}
@@ -13,20 +13,9 @@ use Rattle.posit.specs.Pattern.{value, parts, Parts, isZero, isNaR, isRe
 use Rattle.posit.specs.Exact.{whole, ratio, root}
 use Rattle.posit.specs.Rounding.{round, rounded}
 use Rattle.posit.specs.Operation.{sum, difference, product, quotient, squareRoot, fusedSum, fusedDifference, productTaken}
-use Rattle.posit.specs.Accumulator.{State, notReal, total, clear, ofPosit, ofProduct, plus, negated, minus, toPosit, partsOf, bitsOf, stateOf, words, fromWords, image, fromImage, batch}
-use Rattle.posit.specs.Computing.{everything}
-use Rattle.posit.specs.Desk.{lengthRefusal, bufferRefusal, batchRefusal, claimRefusal, writtenTo, readInto, afterBatch}
-use Rattle.posit.proofs.Table.{Case, is, are, holds}
-
--- a number with its sign: 1 for below 0, then the size
-abbrev shown : ℤ → List ℕ
-shown (pos n) = 0 ∷ n ∷ []
-shown (negsuc n) = 1 ∷ suc n ∷ []
-
--- a state: nothing for NaR
-abbrev held : State → List ℕ
-held notReal = []
-held (total t) = shown t
+use Rattle.posit.specs.Accumulator.{State, notReal, total, clear, ofPosit, ofProduct, plus, negated, minus, toPosit, partsOf, bitsOf, stateOf, words, fromWords, image, fromImage}
+use Rattle.posit.proofs.Computing.{everything}
+use Rattle.posit.proofs.Table.{Case, is, are, shown, held, holds}
 
 -- the parts of a pattern: nothing for 0, one 0 for NaR, else the sign, k, e and the significand
 abbrev split : Parts → List ℕ
@@ -191,20 +180,11 @@ vectors =
     ∷ are (held (minus 512 (total (pos (2 ^ 511 - 1))) (ofProduct 2 31 0x1 0x1))) (0 ∷ (2 ^ 511 - 2) ∷ [])
     ∷ are (held (plus 512 notReal (total (pos 1)))) []
     ∷ are (held (minus 512 (total (pos 1)) (ofPosit 2 31 0x80000000))) []
-    -- a batch at each size: its total, and the three parts of it; the first part is the total rounded
-    ∷ are (held (batch 0 7 128 clear (0x01 ∷ 0x93 ∷ 0x7f ∷ []) (0x01 ∷ 0x5d ∷ 0x21 ∷ []))) (0 ∷ 106865 ∷ [])
-    ∷ are (partsOf 0 7 128 3 (batch 0 7 128 clear (0x01 ∷ 0x93 ∷ 0x7f ∷ []) (0x01 ∷ 0x5d ∷ 0x21 ∷ []))) (0x7d ∷ 0x61 ∷ 0xfe ∷ [])
-    ∷ are (held (batch 1 15 256 clear (0x0001 ∷ 0x5a3c ∷ 0xa5c3 ∷ []) (0x0001 ∷ 0x1234 ∷ 0x4321 ∷ []))) (1 ∷ 0x3a8e6adffffffff ∷ [])
-    ∷ are (partsOf 1 15 256 3 (batch 1 15 256 clear (0x0001 ∷ 0x5a3c ∷ 0xa5c3 ∷ []) (0x0001 ∷ 0x1234 ∷ 0x4321 ∷ []))) (0xa2b9 ∷ 0xff55 ∷ 0x0006 ∷ [])
-    ∷ are (held (batch 2 15 256 clear (0x0003 ∷ 0x3b6d ∷ 0xc493 ∷ []) (0x0005 ∷ 0x7ffb ∷ 0x4321 ∷ []))) (0 ∷ 0xb6cffffffffe035fcc000000000000000001 * 2 ^ 15 ∷ [])
-    ∷ are (partsOf 2 15 256 3 (batch 2 15 256 clear (0x0003 ∷ 0x3b6d ∷ 0xc493 ∷ []) (0x0005 ∷ 0x7ffb ∷ 0x4321 ∷ []))) (0x7ffa ∷ 0x7ff9 ∷ 0x800c ∷ [])
-    ∷ are (held (batch 2 31 512 clear (0x00000003 ∷ 0x32aaaaab ∷ 0xcd555555 ∷ []) (0x00000001 ∷ 0x4c000000 ∷ 0x9abcdef0 ∷ []))) (0 ∷ 0xf08582b22ed6c000000000000000000000000000000000000000000000040 ∷ [])
-    ∷ are (partsOf 2 31 512 3 (batch 2 31 512 clear (0x00000003 ∷ 0x32aaaaab ∷ 0xcd555555 ∷ []) (0x00000001 ∷ 0x4c000000 ∷ 0x9abcdef0 ∷ []))) (0x5f08582b ∷ 0x00a2ed6c ∷ 0x00000001 ∷ [])
-    -- the range is judged after each pair, in 26 bits: out of it and back is NaR, the other order is not; a NaR operand; no pairs
-    ∷ are (held (batch 0 7 26 (total (pos 5)) (0x7f ∷ 0x7f ∷ 0x81 ∷ []) (0x7f ∷ 0x7f ∷ 0x7f ∷ []))) []
-    ∷ are (held (batch 0 7 26 (total (pos 5)) (0x7f ∷ 0x81 ∷ 0x7f ∷ []) (0x7f ∷ 0x7f ∷ 0x7f ∷ []))) (0 ∷ 0x1000005 ∷ [])
-    ∷ are (held (batch 0 7 26 (total (pos 5)) (0x80 ∷ 0x40 ∷ []) (0x00 ∷ 0x40 ∷ []))) []
-    ∷ are (held (batch 0 7 26 (total (pos 5)) [] [])) (0 ∷ 5 ∷ [])
+    -- three parts of a total at each size; the first part is the total rounded
+    ∷ are (partsOf 0 7 128 3 (total (pos 106865))) (0x7d ∷ 0x61 ∷ 0xfe ∷ [])
+    ∷ are (partsOf 1 15 256 3 (total (negsuc 0x3a8e6adfffffffe))) (0xa2b9 ∷ 0xff55 ∷ 0x0006 ∷ [])
+    ∷ are (partsOf 2 15 256 3 (total (pos (0xb6cffffffffe035fcc000000000000000001 * 2 ^ 15)))) (0x7ffa ∷ 0x7ff9 ∷ 0x800c ∷ [])
+    ∷ are (partsOf 2 31 512 3 (total (pos 0xf08582b22ed6c000000000000000000000000000000000000000000000040))) (0x5f08582b ∷ 0x00a2ed6c ∷ 0x00000001 ∷ [])
     -- totals rounded: one unit, below 0 too; just above the cut between the two largest; the limit of the range; NaR, also in parts
     ∷ is (toPosit 2 31 (total (pos 1))) 0x00000001
     ∷ is (toPosit 2 31 (total (negsuc 0))) 0xffffffff
@@ -212,28 +192,6 @@ vectors =
     ∷ is (toPosit 2 31 (total (negsuc (2 ^ 511 - 2)))) 0x80000001
     ∷ is (toPosit 2 31 notReal) 0x80000000
     ∷ are (partsOf 2 31 512 2 notReal) (0x80000000 ∷ 0x80000000 ∷ [])
-    -- the desk, numbers 1 to 4: images of 63, 64 and 65 bytes, buffers of these lengths, and lists about as long as is allowed
-    ∷ are (lengthRefusal 512 (replicate 63 0) ∷ lengthRefusal 512 (replicate 64 0) ∷ lengthRefusal 512 (replicate 65 0) ∷ []) (1 ∷ 0 ∷ 1 ∷ [])
-    ∷ are (bufferRefusal 512 (replicate 63 0) ∷ bufferRefusal 512 (replicate 64 0) ∷ bufferRefusal 512 (replicate 65 0) ∷ []) (2 ∷ 0 ∷ 0 ∷ [])
-    ∷ is (batchRefusal (replicate 2 0) (replicate 1 0)) 3
-    ∷ is (batchRefusal (replicate 16384 0) (replicate 16384 0)) 0
-    ∷ is (batchRefusal (replicate 16385 0) (replicate 16385 0)) 4
-    ∷ is (batchRefusal (replicate 16385 0) (replicate 16384 0)) 3
-    -- a claim: 3 and 4 come before 1, 1 before 5, a wrong byte gives 5, and a right one gives no number, NaR too
-    ∷ is (claimRefusal 2 31 512 (0x00000000 ∷ 0x00000000 ∷ []) (0x00000000 ∷ []) (replicate 63 0)) 3
-    ∷ is (claimRefusal 2 31 512 (replicate 16385 0x00000000) (replicate 16385 0x00000000) (replicate 63 0)) 4
-    ∷ is (claimRefusal 2 31 512 (0x40000000 ∷ []) (0x40000000 ∷ []) (replicate 63 0)) 1
-    ∷ is (claimRefusal 2 31 512 (0x40000000 ∷ []) (0x40000000 ∷ []) (replicate 33 0 ++ (1 ∷ (replicate 29 0 ++ (1 ∷ []))))) 5
-    ∷ is (claimRefusal 2 31 512 (0x40000000 ∷ []) (0x40000000 ∷ []) (replicate 33 0 ++ (1 ∷ replicate 30 0))) 0
-    ∷ is (claimRefusal 2 31 512 (0x40000000 ∷ []) (0x80000000 ∷ []) (128 ∷ replicate 63 0)) 0
-    ∷ is (claimRefusal 2 31 512 [] [] (replicate 64 0)) 0
-    -- what is left behind: a short buffer as it was, a long one beyond its 64 bytes, and the state after a refusal
-    ∷ are (writtenTo 512 (ofPosit 2 31 0x40000000) (replicate 63 9)) (replicate 63 9)
-    ∷ are (writtenTo 512 (ofPosit 2 31 0x40000000) (replicate 66 9)) (replicate 33 0 ++ (1 ∷ (replicate 30 0 ++ (9 ∷ 9 ∷ []))))
-    ∷ are (held (readInto 512 (total (pos 7)) (replicate 63 1))) (0 ∷ 7 ∷ [])
-    ∷ are (held (readInto 512 (total (pos 7)) (replicate 64 255))) (1 ∷ 1 ∷ [])
-    ∷ are (held (afterBatch 2 31 512 (total (pos 7)) (0x1 ∷ 0x1 ∷ []) (0x1 ∷ []))) (0 ∷ 7 ∷ [])
-    ∷ are (held (afterBatch 2 31 512 (total (pos 7)) (0x1 ∷ []) (0x1 ∷ []))) (0 ∷ 8 ∷ [])
     ∷ []
 
 vectors-hold : T (holds vectors)

@@ -88,9 +88,3 @@ image bits q = digits (2 ^ 8) (bits / 8) (bitsOf bits q)
 
 unfoldable pub fromImage : ℕ → List ℕ → State
 fromImage bits bs = stateOf bits (number (2 ^ 8) bs)
-
--- (4.11) a batch: the exact product of each pair is added, from the front, and the range is judged after each pair
-unfoldable pub batch : ℕ → ℕ → ℕ → State → List ℕ → List ℕ → State
-batch es w bits q [] ys = q
-batch es w bits q (x ∷ xs) [] = q
-batch es w bits q (x ∷ xs) (y ∷ ys) = batch es w bits (plus bits q (ofProduct es w x y)) xs ys

@@ -1,9 +1,9 @@
 -- A number in digits to a base, the first digit the most significant, and two's complement (4.1).
-use mathlib.Core.Bool.{cond}
+use mathlib.Core.Bool.{Bool, true, false, cond, _&&_}
 use mathlib.Core.List.{List, [], _∷_}
 use Prim.Native.Nat.{ℕ, zero, suc, _+_, _-_, _*_, _/_, _%_, _^_, _<_}
 use lib.IntN.{ℤ, pos, negsuc}
-use lib.Dec.{ltb}
+use lib.Dec.{eqb, ltb}
 use lib.ListN.{length}
 
 -- the c lowest digits of n to the base B
@@ -20,6 +20,13 @@ number B (d ∷ ds) = d * B ^ length ds + number B ds
 abbrev pub Below : ℕ → List ℕ → Type 0
 Below B [] = Unit {0}
 Below B (d ∷ ds) = (d < B) × Below B ds
+
+-- two lists are the same, digit by digit
+unfoldable pub same : List ℕ → List ℕ → Bool
+same [] [] = true
+same [] (y ∷ ys) = false
+same (x ∷ xs) [] = false
+same (x ∷ xs) (y ∷ ys) = eqb x y && same xs ys
 
 -- n, below 2 * H, read in two's complement: from the half H on it stands for n - 2 * H
 unfoldable pub reading : ℕ → ℕ → ℤ

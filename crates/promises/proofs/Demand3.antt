@@ -18,7 +18,7 @@ use Rattle.posit.specs.Pattern.{nar}
 use Rattle.posit.specs.Digits.{number, Below, reading}
 use Rattle.posit.specs.Operation.{exact, exactProduct}
 use Rattle.posit.specs.Accumulator.{State, notReal, total, clear, ofPosit, ofProduct, plus, minus, negated, words, fromWords, image, fromImage, stateOf, bitsOf}
-use Rattle.posit.specs.Computing.{everything}
+use Rattle.posit.proofs.Computing.{everything}
 use Rattle.posit.proofs.Digits.{number-lt}
 use Rattle.posit.proofs.Signs.{withSign, sum-same}
 use Rattle.posit.proofs.State.{Held, state-held, read-image}

@@ -6,7 +6,7 @@ use lib.Dec.{lit<}
 use lib.IntN.{pos, negsuc}
 use lib.ListN.{length}
 use Rattle.posit.specs.Accumulator.{State, notReal, total, ofPosit, ofProduct, plus, minus, negated, words, fromWords, image, fromImage}
-use Rattle.posit.specs.Desk.{readInto}
+use Rattle.desk.specs.Desk.{readInto}
 use Rattle.posit.proofs.State.{Held, words-read, image-read}
 use Rattle.quire_steps.proofs.Stepped.{plus-held}
 use Rattle.desk.proofs.Spelt.{image-long}

@@ -1,6 +1,6 @@
 // The bench sheet's cases of the accumulator, 4 and 12 to 14, run on the code. That each check holds is proved from the contracts alone.
 ghost use mathlib.Core.Path.{_≡_};
-ghost use Rattle.posit.specs.Desk.{same};
+ghost use Rattle.posit.specs.Digits.{same};
 use p32e2::P32E2;
 use quire_steps::add_product;
 use quire_steps::cleared;

@@ -1,6 +1,6 @@
 -- `main` meets its contract: each check holds, since what an operation ensures computes to what the sheet says.
 use borrow.Author.Tests.{eq-eqb}
-use Rattle.posit.specs.Computing.{everything}
+use Rattle.posit.proofs.Computing.{everything}
 use borrow.Author.Needs.{needs}
 use Rattle.bench_sheet.proofs.main.Statement.{statement}
 use Rattle.bench_sheet.proofs.main.Tie as tie

@@ -1,6 +1,6 @@
 -- The constants' words are those of the definitions' states: they are computed.
 use mathlib.Core.Path.{refl}
-use Rattle.posit.specs.Computing.{everything}
+use Rattle.posit.proofs.Computing.{everything}
 use Rattle.quire32.proofs.words_of_constants.Statement.{statement}
 use Rattle.quire32.proofs.words_of_constants.Tie as tie
 

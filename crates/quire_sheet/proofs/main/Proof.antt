@@ -4,8 +4,8 @@ use mathlib.Core.Bool.{true, not}
 use mathlib.Core.List.{List, [], _∷_}
 use Prim.Native.Nat.{ℕ, _-_, _^_}
 use Rattle.posit.specs.Accumulator.{clear, isNotReal, isClear, plus, ofProduct, words, fromWords}
-use Rattle.posit.specs.Desk.{same}
-use Rattle.posit.specs.Computing.{everything}
+use Rattle.posit.specs.Digits.{same}
+use Rattle.posit.proofs.Computing.{everything}
 use borrow.Author.Needs.{needs}
 use Rattle.quire_sheet.proofs.main.Statement.{statement}
 use Rattle.quire_sheet.proofs.main.Tie as tie

@@ -4,7 +4,8 @@ use Prim.Native.Nat.{ℕ, _+_, _-_, _≤_}
 use native.Mathlib.Omega.{arith}
 use borrow.Author.Needs.{needs}
 use lib.ListN.{length, drop}
-use Rattle.posit.specs.Accumulator.{plus, ofProduct, batch, words, fromWords}
+use Rattle.posit.specs.Accumulator.{plus, ofProduct, words, fromWords}
+use Rattle.desk.specs.Batch.{batch}
 use Rattle.quire_steps.proofs.Stepped.{plus-read}
 use Rattle.desk.proofs.Spelt.{words-back}
 use Rattle.desk.proofs.Summed.{batch-turn, batch-end}

@@ -5,8 +5,9 @@ use mathlib.Core.List.{List}
 use Prim.Native.Nat.{ℕ}
 use native.Mathlib.Omega.{arith}
 use borrow.Author.Needs.{needs}
-use Rattle.posit.specs.Accumulator.{clear, batch, image, words, fromWords}
-use Rattle.posit.specs.Desk.{same}
+use Rattle.posit.specs.Accumulator.{clear, image, words, fromWords}
+use Rattle.desk.specs.Batch.{batch}
+use Rattle.posit.specs.Digits.{same}
 use Rattle.quire_steps.proofs.Stepped.{zeroWords}
 use Rattle.desk.proofs.Summed.{rebuilt}
 use Rattle.desk.proofs.Refused.{unequal, too-many, no-refusal, claim-refused, claim-of-other-length, claim-compared}

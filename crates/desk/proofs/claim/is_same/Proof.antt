@@ -5,7 +5,7 @@ use Prim.Native.Nat.{_-_, _≤_}
 use native.Mathlib.Omega.{arith}
 use borrow.Author.Needs.{needs}
 use lib.ListN.{length, drop}
-use Rattle.posit.specs.Desk.{same}
+use Rattle.posit.specs.Digits.{same}
 use Rattle.desk.proofs.Summed.{same-more, same-end}
 use Rattle.desk.proofs.claim.is_same.Statement.{statement}
 use Rattle.desk.proofs.claim.is_same.Tie as tie

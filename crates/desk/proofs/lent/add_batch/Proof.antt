@@ -4,7 +4,7 @@ use mathlib.Core.List.{[], _∷_}
 use mir.Syntax.{w32}
 use denote.Ref.{now}
 use Rattle.posit.specs.Accumulator.{words, fromWords}
-use Rattle.posit.specs.Desk.{batchRefusal, afterBatch}
+use Rattle.desk.specs.Desk.{batchRefusal, afterBatch}
 use Rattle.lend.proofs.Solid.{uint}
 use Rattle.lend.proofs.Arg.{slice}
 use Rattle.lend.proofs.Reading.{part}

@@ -4,7 +4,7 @@ use mathlib.Core.List.{[], _∷_}
 use mir.Syntax.{w8}
 use denote.Ref.{now}
 use Rattle.posit.specs.Accumulator.{words, fromWords}
-use Rattle.posit.specs.Desk.{lengthRefusal, readInto}
+use Rattle.desk.specs.Desk.{lengthRefusal, readInto}
 use Rattle.lend.proofs.Solid.{uint}
 use Rattle.lend.proofs.Arg.{slice}
 use Rattle.lend.proofs.Reading.{part}

@@ -4,7 +4,7 @@ use mathlib.Core.List.{[], _∷_}
 use mir.Syntax.{w8}
 use denote.Ref.{now}
 use Rattle.posit.specs.Accumulator.{fromWords}
-use Rattle.posit.specs.Desk.{bufferRefusal, writtenTo}
+use Rattle.desk.specs.Desk.{bufferRefusal, writtenTo}
 use Rattle.lend.proofs.Solid.{uint}
 use Rattle.lend.proofs.Arg.{slice-mut}
 use Rattle.lend.proofs.Core.{with-field}

@@ -1,10 +1,12 @@
 -- When the desk says no (5): the numbers, each given exactly when its test says so, and 0 where none is due.
-use mathlib.Core.Bool.{Bool, true, false, cond, _&&_}
-use mathlib.Core.List.{List, [], _∷_, _++_}
+use mathlib.Core.Bool.{cond}
+use mathlib.Core.List.{List, _++_}
 use Prim.Native.Nat.{ℕ, _/_}
 use lib.Dec.{eqb, ltb}
 use lib.ListN.{length, drop}
-use Rattle.posit.specs.Accumulator.{State, clear, image, fromImage, batch}
+use Rattle.posit.specs.Digits.{same}
+use Rattle.posit.specs.Accumulator.{State, clear, image, fromImage}
+use Rattle.desk.specs.Batch.{batch}
 
 -- (5.6) the greatest number of pairs that a batch may have
 abbrev pub pairLimit : ℕ
@@ -29,13 +31,6 @@ batchRefusal xs ys = cond (eqb (length xs) (length ys)) (cond (ltb pairLimit (le
 -- the first of two numbers that is due
 abbrev pub orElse : ℕ → ℕ → ℕ
 orElse n later = cond (eqb n 0) later n
-
--- two lists are the same, element by element
-unfoldable pub same : List ℕ → List ℕ → Bool
-same [] [] = true
-same [] (y ∷ ys) = false
-same (x ∷ xs) [] = false
-same (x ∷ xs) (y ∷ ys) = eqb x y && same xs ys
 
 -- (4.12, 5.5) the claim differs in any byte from the image of the batch begun from zero
 unfoldable pub claimRefusal : ℕ → ℕ → ℕ → List ℕ → List ℕ → List ℕ → ℕ
