@@ -18,7 +18,7 @@ use Rattle.quire_words.proofs.Places.{number-none, number-drop}
 use Rattle.quire_steps.proofs.Moved.{pow-mul, set-adds}
 use Rattle.posit.proofs.State.{Held, words-read}
 use Rattle.quire_steps.proofs.Stepped.{plus-read, plus-held, zeroWords, read-zero}
-use Rattle.desk.specs.Bytes.{Leading}
+use Rattle.posit.proofs.Digits.{Prefix}
 
 -- the pair at i is added
 batch-more : (q : State) (a b : List ℕ) (i : ℕ) → i < length a → i < length b
@@ -55,7 +55,7 @@ rebuilt a b ws e =
 -- ---- bytes
 
 -- one byte more in front of those that are left
-pub byte-more : (bs : List ℕ) (at k x : ℕ) → at + k < length bs → Leading bs at k x → Leading bs at (k + 1) (256 * x + getD bs (at + k) 0)
+pub byte-more : (bs : List ℕ) (at k x : ℕ) → at + k < length bs → Prefix 256 bs at k x → Prefix 256 bs at (k + 1) (256 * x + getD bs (at + k) 0)
 byte-more bs at k x h e =
     let next : length bs - (at + k) ≡ suc (length bs - (at + (k + 1))) = omega arith in
     let place : suc (at + k) ≡ at + (k + 1) = omega arith in
@@ -65,7 +65,7 @@ byte-more bs at k x h e =
     rw place at (number-drop 256 bs (at + k) h) in
     omega (arith, e, ap (λ (n : ℕ). x * n) power, behind)
 
-pub byte-start : (bs : List ℕ) (at : ℕ) → Leading bs at 0 0
+pub byte-start : (bs : List ℕ) (at : ℕ) → Prefix 256 bs at 0 0
 byte-start bs at = rw (add-zero at) (sym (omega (arith, zero-mul (256 ^ (length bs - at)))))
 
 pub byte-fits : (x y k : ℕ) → x < 256 ^ k → y < 256 → 256 * x + y < 256 ^ (k + 1)
@@ -94,7 +94,7 @@ read-start bs = record { long = refl; together = zero-add (number 256 bs); rest 
 pub read-all : (bs r : List ℕ) → length bs ≡ 64 → Read bs r 8 → wide r ≡ number 256 bs
 read-all bs r e h = sym (add-zero (wide r)) ∙ (rw (number-none 256 64 bs (le-of-eq e)) at (h .together))
 
-pub word-more : (bs r : List ℕ) (j w : ℕ) → length bs ≡ 64 → j < 8 → Read bs r j → Leading bs (8 * j) 8 w → Read bs (set r j w) (j + 1)
+pub word-more : (bs r : List ℕ) (j w : ℕ) → length bs ≡ 64 → j < 8 → Read bs r j → Prefix 256 bs (8 * j) 8 w → Read bs (set r j w) (j + 1)
 word-more bs r j w e h read lead =
     let place : 8 * j + 8 ≡ 8 * (j + 1) = omega arith in
     let power : 256 ^ (64 - 8 * (j + 1)) ≡ (2 ^ 64) ^ (8 - suc j) =

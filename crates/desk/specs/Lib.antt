@@ -2,4 +2,3 @@
 pub mod Batch
 pub mod Desk
 pub mod Answers
-pub mod Bytes

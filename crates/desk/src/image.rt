@@ -7,7 +7,7 @@ ghost use Rattle.posit.specs.Accumulator.{words, fromWords, image};
 ghost use Rattle.desk.specs.Desk.{lengthRefusal, bufferRefusal, writtenTo, readInto};
 ghost use Rattle.quire_words.specs.Words.{wide};
 ghost use Rattle.desk.specs.Answers.{writeNumber, readNumber};
-ghost use Rattle.desk.specs.Bytes.{Leading};
+ghost use Rattle.posit.proofs.Digits.{Prefix};
 
 // The length of an image, in bytes.
 pub const IMAGE_LENGTH: usize = 64;
@@ -116,7 +116,7 @@ fn words_of(bytes: &[u8]) -> [u64; 8]
 // The eight bytes from `at` on, as a word.
 fn word_at(bytes: &[u8], at: usize) -> u64
     requires { ⌜ at + 8 ≤ length (now bytes) ⌝ }
-    ensures { λ r. ⌜ Leading (now (bytes .entry)) at 8 r ⌝ }
+    ensures { λ r. ⌜ Prefix 256 (now (bytes .entry)) at 8 r ⌝ }
 {
     let mut r: u64 = 0;
     let mut k: usize = 0;

@@ -3,12 +3,12 @@ mod math; // math.rt: the root, and fused results
 mod ops; // ops.rt: the arithmetic
 
 ghost use mathlib.Core.Path.{_≡_};
-ghost use Prim.Native.Nat.{_^_};
+ghost use mathlib.Core.List.{[], _∷_};
+ghost use Prim.Native.Nat.{_-_, _^_};
 ghost use lib.Dec.{eqb};
-ghost use Rattle.posit.specs.Pattern.{nar, parts};
+ghost use Rattle.posit.specs.Pattern.{nar, opposite, parts};
 ghost use Rattle.posit.specs.Operation.{quotient};
 ghost use Rattle.unpacking.specs.Unpacked.{meaning};
-ghost use Rattle.p32e2.specs.Constants.{patterns};
 pub use unpacking::Unpacked;
 
 pub struct P32E2(pub u32);
@@ -65,7 +65,7 @@ impl P32E2 {
 
 // The constants' patterns, in the order of their declarations. Nothing calls this: its contract ties the constants to the definitions.
 fn patterns_of_constants() -> [u32; 6]
-    ensures { λ r. ⌜ r ≡ patterns ⌝ }
+    ensures { λ r. ⌜ r ≡ 0 ∷ 2 ^ 30 ∷ nar 31 ∷ opposite 31 (2 ^ 31 - 1) ∷ (2 ^ 31 - 1) ∷ 1 ∷ [] ⌝ }
 {
     [
         P32E2::ZERO.0,

@@ -3,12 +3,12 @@
 use mathlib.Core.Path.{_≡_, refl, sym, ap, ap₂, _∙_}
 use mathlib.Core.Bool.{Bool, true, false, _&&_}
 use mathlib.Core.List.{List, [], _∷_}
-use Prim.Native.Nat.{ℕ, zero, suc, _+_, _*_, _/_, _%_, _^_, _<_}
+use Prim.Native.Nat.{ℕ, zero, suc, _+_, _-_, _*_, _/_, _%_, _^_, _<_}
 use native.Mathlib.Nat.{mul-assoc, pow-zero, pow-succ' as pow-suc', pow-suc, mod-lt, mod-one, mod-eq-of-lt, div-add-mod', mul-add-div-right, mul-add-mod-self-right, mul-pos}
 use native.Mathlib.Omega.{arith}
 use lib.Dec.{T, eqb, eqb→eq}
 use lib.Arith.{digits-lt, digits-div, digits-mod}
-use lib.ListN.{length}
+use lib.ListN.{length, drop}
 use Rattle.posit.specs.Digits.{digits, number, Below, same}
 
 pub length-digits : (B c n : ℕ) → length (digits B c n) ≡ c
@@ -56,6 +56,12 @@ module _ (B : ℕ) (base : 0 < B) where
   unfolding digits number
   number-digits zero n = rw pow-zero (sym (mod-one n))
   number-digits (suc c) n = rw (length-digits B c n, number-digits c n, pow-suc') (mod-more (B ^ c) n (power-pos c))
+
+-- ---- a number that is read digit by digit
+
+-- x is the number of the k digits from `at` on
+abbrev pub Prefix : ℕ → List ℕ → ℕ → ℕ → ℕ → Type 0
+Prefix B ds at k x = number B (drop at ds) ≡ x * B ^ (length ds - (at + k)) + number B (drop (at + k) ds)
 
 -- ---- lists that are the same are equal
 

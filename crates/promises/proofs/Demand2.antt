@@ -1,4 +1,5 @@
--- "The accumulator holds the exact sum or NaR. Rounding a pattern's own value gives the pattern back": of the contracts of the public functions.
+-- "The rounding that the standard gives the exact result; the accumulator holds the exact sum or NaR. Rounding a pattern's own value gives the pattern back":
+-- the first of the function by which the contracts tell a rounding, the others of the contracts of the public functions.
 use mathlib.Core.Path.{_≡_, refl, sym, ap, _∙_}
 use mathlib.Core.List.{List}
 use Prim.Native.Nat.{ℕ, suc, _+_, _^_, _≤_, _<_}
@@ -6,10 +7,13 @@ use native.Mathlib.Nat.{lt-of-le-of-lt}
 use native.Mathlib.Decide.{ℕ-discrete}
 use borrow.Author.Tests.{eq-eqb}
 use lib.Dec.{lit<, lit≤}
-use Rattle.posit.specs.Pattern.{nar}
+use Rattle.posit.specs.Pattern.{nar, least}
+use Rattle.posit.specs.Exact.{Exact, Sound}
+use Rattle.posit.specs.Rounding.{Rounds, round}
 use Rattle.posit.specs.Operation.{exact}
 use Rattle.posit.specs.Accumulator.{State, notReal, total, ofPosit, toPosit, words, fromWords, image, fromImage}
 use Rattle.posit.proofs.State.{Held}
+use Rattle.posit.proofs.Rounding.{round-meets, round-only}
 use Rattle.posit.proofs.Value.{rounded-own}
 use Rattle.p32e2.specs.declared.P32E2.{P32E2}
 use Rattle.quire_steps.proofs.from_posit.Reads as from-posit
@@ -19,6 +23,15 @@ use Rattle.promises.specs.Run.{Image}
 use Rattle.promises.proofs.Tracked.{back, image-back, after, after-held}
 use Rattle.promises.proofs.Totals.{posit-total, posit-at-most, exact-after}
 use Rattle.promises.proofs.Demand3.{shown, clear-held}
+
+-- ---- "the rounding that the standard gives"
+
+-- what is rounded stands in the standard's relation to its rounding, and to no other pattern
+pub rounding-is-the-standards : (u : ℕ) → least 2 32 ≤ u → (x : Exact) → Sound x → Rounds 2 31 u x (round 2 31 u x)
+rounding-is-the-standards u fine x sound = round-meets 2 31 u fine x sound (lit< tt)
+
+pub standard-rounds-so-only : (u : ℕ) → least 2 32 ≤ u → (x : Exact) → Sound x → (p : ℕ) → Rounds 2 31 u x p → p ≡ round 2 31 u x
+standard-rounds-so-only u fine x sound p r = sym (round-only 2 31 u fine x sound (lit< tt) r)
 
 -- ---- "the accumulator holds the exact sum"
 

@@ -1,8 +1,8 @@
 // The accumulator Q32E2: sums of posits of 32 bits and of their exact products, without rounding. It counts units of 2^-240 in 512 bits.
 ghost use mathlib.Core.Path.{_≡_};
 ghost use mathlib.Core.List.{[], _∷_};
-ghost use Rattle.posit.specs.Accumulator.{clear, isNotReal, isClear, ofPosit, ofProduct, plus, minus, negated, toPosit, partsOf, words, fromWords};
-ghost use Rattle.quire32.specs.Constants.{constants};
+ghost use Prim.Native.Nat.{_^_};
+ghost use Rattle.posit.specs.Accumulator.{notReal, clear, isNotReal, isClear, ofPosit, ofProduct, plus, minus, negated, toPosit, partsOf, words, fromWords};
 use p32e2::P32E2;
 use quire_totals::ThreePosits;
 use quire_totals::TwoPosits;
@@ -114,7 +114,7 @@ impl Q32E2 {
 
 // The constants' words, in the order of their declarations. Nothing calls this: its contract ties the constants to the definitions.
 fn words_of_constants() -> [[u64; 8]; 3]
-    ensures { λ r. ⌜ r ≡ constants ⌝ }
+    ensures { λ r. ⌜ r ≡ words 512 clear ∷ words 512 (ofPosit 2 31 (2 ^ 30)) ∷ words 512 notReal ∷ [] ⌝ }
 {
     let zero = Q32E2::ZERO.0;
     let one = Q32E2::ONE.0;

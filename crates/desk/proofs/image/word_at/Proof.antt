@@ -5,13 +5,13 @@ use native.Mathlib.Omega.{arith}
 use borrow.Author.Needs.{needs}
 use lib.Dec.{lit<}
 use lib.ListN.{getD}
-use Rattle.desk.specs.Bytes.{Leading}
+use Rattle.posit.proofs.Digits.{Prefix}
 use Rattle.desk.proofs.Summed.{byte-more, byte-start, byte-fits, word-fits}
 use Rattle.desk.proofs.image.word_at.Statement.{statement}
 use Rattle.desk.proofs.image.word_at.Tie as tie
 
 abbrev Inv-loop : tie.InvT-loop
-Inv-loop bytes at r₀ k₀ r k = (k ≤ 8) × (r < 256 ^ k) × Leading bytes at k r
+Inv-loop bytes at r₀ k₀ r k = (k ≤ 8) × (r < 256 ^ k) × Prefix 256 bytes at k r
 
 abbrev μ-loop : tie.MeasureT-loop
 μ-loop bytes at r₀ k₀ r k = 8 - k

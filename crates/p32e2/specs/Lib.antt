@@ -1,2 +1,0 @@
--- What the constants are.
-pub mod Constants
