@@ -12,6 +12,7 @@
 // What is answered comes from `desk`: `check_claim` for a claim, `add_batch` from zero and `image_of` for an image.
 ghost use Prim.Native.Nat.{_≤_};
 ghost use lib.ListN.{length};
+ghost use Rattle.io.specs.Counts.{Counts};
 use desk::batch::add_batch;
 use desk::claim::check_claim;
 use desk::image::image_of;
@@ -23,14 +24,45 @@ mod words; // words.rt: what is printed
 // One byte more than the longest text.
 const TEXT_ROOM: usize = 400001;
 
+// How many bytes of the input were read, and whether a read failed.
+struct TextRead {
+    count: usize,
+    failed: bool,
+}
+
 fn main() {
     let mut text = [0u8; TEXT_ROOM];
-    let n = io::read_full(0, &mut text);
-    if n == TEXT_ROOM {
+    let read = read_text(&mut text);
+    let n = read.count;
+    if read.failed {
+        words::say(b"the input could not be read to its end");
+    } else if n == TEXT_ROOM {
         words::say(b"the input is longer than 400000 bytes");
-        return;
+    } else {
+        answer(&text[..n]);
     }
-    answer(&text[..n]);
+}
+
+// Reads until the input ends, a read fails or the room is full. `io::read_full` does not tell an end from a failure, after which a batch would be cut short.
+fn read_text(text: &mut [u8]) -> TextRead
+    ensures { λ r. ⌜ Counts (r .count) (now (text .exit)) ⌝ }
+{
+    let mut count: usize = 0;
+    while count < text.len() {
+        let got = libc::read(0, &mut text[count..]);
+        let more = io::count(got, &text[count..]);
+        if more == 0 {
+            return TextRead {
+                count,
+                failed: got < 0,
+            };
+        }
+        count += more;
+    }
+    TextRead {
+        count,
+        failed: false,
+    }
 }
 
 fn answer(text: &[u8]) {
