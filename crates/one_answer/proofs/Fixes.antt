@@ -29,10 +29,9 @@ module _ (T : Ended) where
   After = (κs : Lifetimes) → Args (T .signature) κs → Res (T .signature) κs → AtExit T κs → Type 0
 
   -- u and v are the last values: one for each argument that is lent to be changed, and nothing for the others, which are at exit as they were
-  abbrev pub Fixes : Before → After → Type 0
-  Fixes Pre Post =
-      (κs : Lifetimes) (a : Args (T .signature) κs) → Pre κs a
-      → (x y : Res (T .signature) κs) (u v : Lasts T κs a) → Post κs a x (atExit T κs a u) → Post κs a y (atExit T κs a v) → (x ≡ y) × (u ≡ v)
+  pub record Fixes (Pre : Before) (Post : After) : Type 0 where
+    pub one : (κs : Lifetimes) (a : Args (T .signature) κs) → Pre κs a
+        → (x y : Res (T .signature) κs) (u v : Lasts T κs a) → Post κs a x (atExit T κs a u) → Post κs a y (atExit T κs a v) → (x ≡ y) × (u ≡ v)
 
   abbrev pub FixesTyped : ((κs : Lifetimes) → Res (T .signature) κs → Type 0) → Before → After → Type 0
   FixesTyped Ok Pre Post = Fixes Pre (λ κs a x s. Ok κs x × Post κs a x s)
@@ -47,5 +46,7 @@ module _ (T : Ended) where
       (M : Type 1) (𝓤 : URA M) (H : Heap 𝓤) (A : Atoms 𝓤) (mem : Memory → SProp 𝓤) (run : Routine → Fun 𝓤) (κs : Lifetimes) (a : Args (T .signature) κs)
       (g : clauses M 𝓤 H A mem run κs a .ghost) (x : Res (T .signature) κs) (s : AtExit T κs) → clauses M 𝓤 H A mem run κs a .ensures g x s ≡ fact 𝓤 (Post κs a x s)
 
-  abbrev pub FixesLent : Stated → Type 2
-  FixesLent clauses = (Post : After) × Says clauses Post × Fixes (λ κs a. Unit {0}) Post
+  pub record FixesLent (clauses : Stated) : Type 2 where
+    pub Post : After
+    pub says : Says clauses Post
+    pub fixes : Fixes (λ κs a. Unit {0}) Post

@@ -5,4 +5,6 @@ mod Accumulator
 mod Desk
 mod Linked
 mod Engines
+mod Arguments
 mod Wrong
+mod Handed
