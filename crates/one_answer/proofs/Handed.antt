@@ -5,12 +5,12 @@ use mathlib.Core.List.{List, [], _∷_}
 use Prim.Native.Nat.{ℕ, _+_, _-_, _^_}
 use lib.Dec.{eqb}
 use lib.ListN.{length, getD, take}
-use Rattle.posit.specs.Computing.{everything}
+use Rattle.desk.proofs.Computing.{everything}
 use Rattle.posit.specs.Digits.{number}
 use Rattle.posit.specs.Pattern.{nar, opposite}
 use Rattle.posit.specs.Operation.{sum, difference, product, quotient, fusedSum, fusedDifference}
 use Rattle.posit.specs.Accumulator.{isNotReal, isClear, ofPosit, ofProduct, plus, minus, negated, toPosit, words, fromWords}
-use Rattle.posit.specs.Desk.{afterBatch}
+use Rattle.desk.specs.Desk.{afterBatch}
 use Rattle.quire_words.specs.Words.{wide}
 use Rattle.one_answer.proofs.Engines.{NoConstant, NotAlways, Never, constant-fails, always-fails, never}
 use Rattle.one_answer.proofs.Arguments.{bits, to, eight, bytes, lent}
