@@ -17,7 +17,8 @@ use Rattle.quire_words.specs.Words.{wide}
 use Rattle.quire_words.proofs.Places.{number-none, number-drop}
 use Rattle.quire_steps.proofs.Moved.{pow-mul, set-adds}
 use Rattle.posit.proofs.State.{Held, words-read}
-use Rattle.quire_steps.proofs.Stepped.{plus-read, plus-held, zeroWords, read-zero}
+use Rattle.quire_steps.proofs.Words.{zeroWords, read-zero}
+use Rattle.quire_steps.proofs.Kept.{plus-read, plus-held}
 use Rattle.posit.proofs.Digits.{Prefix}
 
 -- the pair at i is added

@@ -8,7 +8,7 @@ use lib.ListN.{length}
 use Rattle.posit.specs.Accumulator.{State, notReal, total, ofPosit, ofProduct, plus, minus, negated, words, fromWords, image, fromImage}
 use Rattle.desk.specs.Desk.{readInto}
 use Rattle.posit.proofs.State.{Held, words-read, image-read}
-use Rattle.quire_steps.proofs.Stepped.{plus-held}
+use Rattle.quire_steps.proofs.Kept.{plus-held}
 use Rattle.desk.proofs.Spelt.{image-long}
 use Rattle.desk.proofs.Refused.{right-length}
 use Rattle.promises.specs.History.{Step, addPosit, takePosit, addProduct, takeProduct, negate, throughImage}

@@ -2,4 +2,6 @@
 pub mod Range
 pub mod Brought
 pub mod Moved
+pub mod Words
+pub mod Kept
 pub mod Stepped

@@ -1,101 +1,40 @@
--- A step on words: what the definitions make of NaR, and of an operand that is added to the number of a state (`Range.steps`), spelt in words.
-use mathlib.Core.Path.{_≡_, refl, sym, ap, ap₂, _∙_}
+-- A step on the number of a state (`Range.steps`), told by the definitions: NaR stays, an operand is added with its sign or with the other one, and the negative is the
+-- wrapped negative.
+use mathlib.Core.Path.{_≡_, refl, sym, ap, _∙_}
 use mathlib.Core.Logic.{_≢_}
-use mathlib.Core.Bool.{Bool, true, false, cond}
-use mathlib.Core.List.{List, [], _∷_}
-use Prim.Native.Nat.{ℕ, suc, _+_, _-_, _*_, _/_, _%_, _^_, _≤_, _<_}
+use mathlib.Core.Bool.{Bool, true, false, cond, Bool·beq}
+use mathlib.Core.List.{List}
+use Prim.Native.Nat.{ℕ, _+_, _-_, _*_, _/_, _%_, _^_, _<_}
 use native.Mathlib.Nat.{add-zero, mul-comm, lt-of-lt-of-le, mul-le-mul-left, mul-lt-mul-of-pos-right, div-lt-iff-lt-mul}
-use native.Mathlib.Decide.{decLt, ℕ-discrete}
+use native.Mathlib.Decide.{ℕ-discrete}
 use native.Mathlib.Omega.{arith}
-use borrow.Author.Tests.{eq-eqb, ne-eqb, lt-ltb, le-ltb}
+use borrow.Author.Tests.{lt-ltb}
 use mir.Val.{boolByte}
-use lib.Dec.{eqb, ltb, leb, lit<}
+use lib.Dec.{ltb, leb}
 use lib.IntN.{ℤ, pos, natAbs, _+ℤ_, +ℤ-idl}
-use lib.ListN.{length}
 use lib.Pow.{pow-pos, pow-mono}
-use Rattle.posit.specs.Digits.{number, digits, Below, reading, complement}
-use Rattle.posit.specs.Accumulator.{State, notReal, total, clear, isNotReal, isClear, kept, plus, negated, minus, ofPosit, toPosit, partsOf, bitsOf, stateOf, words, fromWords}
-use Rattle.posit.proofs.Digits.{digits-number}
-use Rattle.posit.proofs.Complement.{reading-low, reading-high}
-use Rattle.posit.proofs.Signs.{withSign}
-use Rattle.posit.proofs.State.{Held, words-read}
+use Rattle.posit.specs.Digits.{number, digits, reading, complement}
+use Rattle.posit.specs.Accumulator.{State, notReal, total, kept, plus, negated, minus, bitsOf, words, fromWords}
+use Rattle.posit.proofs.Signs.{withSign, negated-sign}
 use Rattle.quire_words.specs.Words.{wide}
-use Rattle.quire_steps.specs.Operand.{turned, escaped, directedBy}
+use Rattle.quire_steps.specs.Operand.{turned, escaped}
 use Rattle.quire_steps.specs.Step.{moved}
 use Rattle.quire_steps.proofs.Range.{wrap, keptAs, size-of, negated-as, steps}
+use Rattle.quire_steps.proofs.Words.{read-nar, read-real}
 
--- ---- the words of NaR
+-- ---- no step leads out of NaR, and a NaR operand into it
 
-abbrev pub narWords : List ℕ
-narWords = 2 ^ 63 ∷ 0 ∷ 0 ∷ 0 ∷ 0 ∷ 0 ∷ 0 ∷ 0 ∷ []
+pub nar-moves : (added : Bool) (x : State) → moved added notReal x ≡ notReal
+unfolding plus minus
+nar-moves true x = refl
+nar-moves false x = refl
 
-pub nar-spelt : narWords ≡ words 512 notReal
-unfolding words bitsOf digits
-nar-spelt = refl
-
--- ---- the clear state
-
-abbrev pub zeroWords : List ℕ
-zeroWords = 0 ∷ 0 ∷ 0 ∷ 0 ∷ 0 ∷ 0 ∷ 0 ∷ 0 ∷ []
-
-pub clear-spelt : zeroWords ≡ words 512 clear
-unfolding words bitsOf digits complement
-clear-spelt = refl
-
--- ---- no step leads out of NaR
-
-pub plus-nar : (q : State) → plus 512 q notReal ≡ notReal
-unfolding plus
-plus-nar notReal = refl
-plus-nar (total t) = refl
-
-pub nar-plus : (x : State) → plus 512 notReal x ≡ notReal
-unfolding plus
-nar-plus x = refl
-
--- ---- words and their number
-
-pub read-nar : (ws : List ℕ) → wide ws ≡ 2 ^ 511 → fromWords 512 ws ≡ notReal
-unfolding fromWords stateOf
-read-nar ws e = rw (eq-eqb (wide ws) (2 ^ 511) e)
-
-pub read-clear : (ws : List ℕ) → wide ws ≡ 0 → fromWords 512 ws ≡ total (pos 0)
-unfolding fromWords stateOf reading
-read-clear ws e = rw e
-
-pub read-real : (ws : List ℕ) → wide ws ≢ 2 ^ 511 → fromWords 512 ws ≡ total (reading (2 ^ 511) (wide ws))
-unfolding fromWords stateOf
-read-real ws n = rw (ne-eqb (wide ws) (2 ^ 511) n)
-
-pub spelt : (q : State) (ws : List ℕ) → length ws ≡ 8 → Below (2 ^ 64) ws → wide ws ≡ bitsOf 512 q → ws ≡ words 512 q
-unfolding words
-spelt q ws e b n = sym (digits-number (2 ^ 64) (pow-pos 64) ws b) ∙ ap₂ (digits (2 ^ 64)) e n
-
--- ---- the two questions
-
-pub nar-seen : (ws : List ℕ) → eqb (wide ws) (2 ^ 511) ≡ isNotReal (fromWords 512 ws)
-unfolding fromWords stateOf isNotReal
-nar-seen ws = go (eqb (wide ws) (2 ^ 511))
-  where
-    go : (b : Bool) → b ≡ isNotReal (cond b notReal (total (reading (2 ^ 511) (wide ws))))
-    go true = refl
-    go false = refl
-
-clear-at : (H n : ℕ) → n < 2 * H → eqb n 0 ≡ isClear (total (reading H n))
-unfolding isClear
-clear-at H n l = go (decLt n H)
-  where
-    go : Dec (n < H) → eqb n 0 ≡ isClear (total (reading H n))
-    go (yes h) = rw (reading-low H n h)
-    go (no h) = rw (reading-high H n (omega arith)) (ne-eqb n 0 (λ z. omega arith))
-
-pub clear-seen : (ws : List ℕ) → wide ws < 2 ^ 512 → eqb (wide ws) 0 ≡ isClear (fromWords 512 ws)
-unfolding isClear
-clear-seen ws l = go (ℕ-discrete (wide ws) (2 ^ 511))
-  where
-    go : Dec (wide ws ≡ 2 ^ 511) → eqb (wide ws) 0 ≡ isClear (fromWords 512 ws)
-    go (yes e) = rw (read-nar ws e, e)
-    go (no n) = rw (read-real ws n) (clear-at (2 ^ 511) (wide ws) l)
+pub moved-by-nar : (added : Bool) (q : State) → moved added q notReal ≡ notReal
+unfolding plus minus negated
+moved-by-nar true notReal = refl
+moved-by-nar true (total t) = refl
+moved-by-nar false notReal = refl
+moved-by-nar false (total t) = refl
 
 -- ---- an operand that is added
 
@@ -130,6 +69,27 @@ module _ (s : Bool) (ws : List ℕ) (m z : ℕ) (ne : wide ws ≢ 2 ^ 511) (shor
       let wrapped : z ≡ (wide ws + wrap (2 ^ 511) s m) % 2 ^ 512 = sum ∙ ap (λ (n : ℕ). n % 2 ^ 512) (carried-in s (2 ^ 511) (wide ws) m small) in
       rw wrapped (sym (bits-plus ws (withSign s m) ne ∙ steps (2 ^ 511) (wide ws) m ne short small s))
 
+-- ---- the direction
+
+-- to take an operand is to add it with the other sign
+pub directed : (added s : Bool) (q : State) (m : ℕ) → plus 512 q (total (withSign (Bool·beq s added) m)) ≡ moved added q (total (withSign s m))
+unfolding minus negated
+directed true true q m = refl
+directed true false q m = refl
+directed false true q m = ap (λ t. plus 512 q (total t)) (sym (negated-sign true m))
+directed false false q m = ap (λ t. plus 512 q (total t)) (sym (negated-sign false m))
+
+-- words that were stepped by an operand x, which stands for y
+pub moved-by : {x y : State} (added : Bool) (q : State) {ws : List ℕ} → ws ≡ words 512 (moved added q x) → x ≡ y → ws ≡ words 512 (moved added q y)
+moved-by added q e k = e ∙ ap (λ z. words 512 (moved added q z)) k
+
+-- ---- from 0
+
+pub from-zero : (n s : Bool) (m : ℕ) → m < 2 ^ 511 → plus 512 (total (pos 0)) (cond n notReal (total (withSign s m))) ≡ cond n notReal (total (withSign s m))
+unfolding plus
+from-zero true s m h = refl
+from-zero false s m h = rw (+ℤ-idl (withSign s m), size-of s m, lt-ltb m (2 ^ 511) h)
+
 -- ---- the negative
 
 pub negated-bits : (ws : List ℕ) → wide ws < 2 ^ 512 → (2 ^ 512 - wide ws) % 2 ^ 512 ≡ bitsOf 512 (negated (fromWords 512 ws))
@@ -139,50 +99,3 @@ negated-bits ws l = go (ℕ-discrete (wide ws) (2 ^ 511))
     go : Dec (wide ws ≡ 2 ^ 511) → (2 ^ 512 - wide ws) % 2 ^ 512 ≡ bitsOf 512 (negated (fromWords 512 ws))
     go (yes e) = rw (read-nar ws e, e)
     go (no n) = rw (read-real ws n) (sym (negated-as (2 ^ 511) (wide ws) n l))
-
--- ---- what a step leads to is written and read back unchanged
-
-kept-held : (bits : ℕ) (t : ℤ) → Held bits (kept bits t)
-kept-held bits t = go (decLt (natAbs t) (2 ^ (bits - 1)))
-  where
-    go : Dec (natAbs t < 2 ^ (bits - 1)) → Held bits (kept bits t)
-    go (yes h) = rw (lt-ltb (natAbs t) (2 ^ (bits - 1)) h) h
-    go (no h) = rw (le-ltb (natAbs t) (2 ^ (bits - 1)) (omega arith)) tt
-
-pub plus-held : (q x : State) → Held 512 (plus 512 q x)
-unfolding plus
-plus-held notReal x = tt
-plus-held (total t) notReal = tt
-plus-held (total t) (total u) = kept-held 512 (t +ℤ u)
-
-pub plus-read : (q x : State) → fromWords 512 (words 512 (plus 512 q x)) ≡ plus 512 q x
-plus-read q x = words-read 512 (lit< tt) refl (plus 512 q x) (plus-held q x)
-
--- ---- parts
-
-pub last-part : (f : ℕ) (q : State) → f ≡ toPosit 2 31 q → f ∷ [] ≡ partsOf 2 31 512 1 q
-unfolding partsOf
-last-part f q e = rw e
-
--- one part more: f is the rounding, and ws what it leaves
-pub parts-next : (n f : ℕ) (q : State) (ws : List ℕ) → f ≡ toPosit 2 31 q → ws ≡ words 512 (minus 512 q (ofPosit 2 31 f)) → f ∷ partsOf 2 31 512 n (fromWords 512 ws) ≡ partsOf 2 31 512 (suc n) q
-unfolding partsOf minus
-parts-next n f q ws e l = rw (l, plus-read, e)
-
--- ---- from 0
-
-pub from-zero : (n s : Bool) (m : ℕ) → m < 2 ^ 511 → plus 512 (total (pos 0)) (cond n notReal (total (withSign s m))) ≡ cond n notReal (total (withSign s m))
-unfolding plus
-from-zero true s m h = refl
-from-zero false s m h = rw (+ℤ-idl (withSign s m), size-of s m, lt-ltb m (2 ^ 511) h)
-
-pub read-zero : fromWords 512 zeroWords ≡ total (pos 0)
-unfolding number
-read-zero = read-clear zeroWords refl
-
--- ---- the direction
-
-pub directed-moves : (d : Bool) (q x : State) → plus 512 q (directedBy d x) ≡ moved d q x
-unfolding minus
-directed-moves true q x = refl
-directed-moves false q x = refl

@@ -22,17 +22,12 @@ pub record IsFactor (p : ℕ) (isNar negative : Bool) (c g : ℕ) : Type 0 where
   pub significand-below : g < 2 ^ 31
 
 -- the size of an operand, in units of 2 ^ - 240
-abbrev pub amount : Operand → ℕ
-amount x = x .significand * 2 ^ x .shift / 2 ^ 64
+abbrev pub amount : ℕ → ℕ → ℕ
+amount shift significand = significand * 2 ^ shift / 2 ^ 64
 
 -- the state that an operand stands for
 abbrev pub brought : Operand → State
-brought x = cond (x .nar) notReal (total (withSign (x .negative) (amount x)))
-
--- an operand that is added as it is, or with the other sign
-abbrev pub directedBy : Bool → State → State
-directedBy true x = x
-directedBy false x = negated x
+brought x = cond (x .nar) notReal (total (withSign (x .negative) (amount (x .shift) (x .significand))))
 
 -- a number of which each digit is turned round, or not: n is the largest number of as many digits
 abbrev pub turned : Bool → ℕ → ℕ → ℕ

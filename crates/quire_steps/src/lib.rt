@@ -5,9 +5,9 @@ ghost use mathlib.Core.Path.{_≡_};
 ghost use mathlib.Core.Bool.{cond};
 ghost use Prim.Native.Nat.{_-_, _^_, _<_};
 ghost use lib.Dec.{leb};
-ghost use Rattle.posit.specs.Accumulator.{clear, isNotReal, isClear, ofPosit, ofProduct, plus, minus, negated, words, fromWords};
+ghost use Rattle.posit.specs.Accumulator.{notReal, clear, isNotReal, isClear, ofPosit, ofProduct, plus, minus, negated, words, fromWords};
 ghost use Rattle.quire_words.specs.Words.{wide};
-ghost use Rattle.quire_steps.specs.Operand.{amount, brought, directedBy, turned, escaped};
+ghost use Rattle.quire_steps.specs.Operand.{amount, brought, turned, escaped};
 ghost use Rattle.quire_steps.specs.Step.{moved};
 use operands::Operand;
 use operands::posit_of;
@@ -77,62 +77,62 @@ pub fn cleared() -> [u64; 8]
 pub fn from_posit(p: P32E2) -> [u64; 8]
     ensures { λ r. ⌜ r ≡ words 512 (ofPosit 2 31 (p .0)) ⌝ }
 {
-    step([0; 8], posit_of(p))
+    step([0; 8], posit_of(p), true)
 }
 
 // A product in one of the two directions: added, or taken where `added` is false.
 fn fdp(q: [u64; 8], a: P32E2, b: P32E2, added: bool) -> [u64; 8]
     ensures { λ r. ⌜ r ≡ words 512 (moved added (fromWords 512 q) (ofProduct 2 31 (a .0) (b .0))) ⌝ }
 {
-    step(q, directed(product_of(a, b), added))
+    step(q, product_of(a, b), added)
 }
 
 // The same for one posit.
 fn fdp_one(q: [u64; 8], p: P32E2, added: bool) -> [u64; 8]
     ensures { λ r. ⌜ r ≡ words 512 (moved added (fromWords 512 q) (ofPosit 2 31 (p .0))) ⌝ }
 {
-    step(q, directed(posit_of(p), added))
+    step(q, posit_of(p), added)
 }
 
 // To take an operand is to add it with the other sign.
-fn directed(x: Operand, added: bool) -> Operand
+fn step(q: [u64; 8], x: Operand, added: bool) -> [u64; 8]
     requires { ⌜ x .shift < 512 ⌝ }
-    ensures { λ r. ⌜ (r .shift < 512) × (brought r ≡ directedBy added (brought x)) ⌝ }
-{
-    Operand {
-        nar: x.nar,
-        negative: x.negative == added,
-        shift: x.shift,
-        significand: x.significand,
-    }
-}
-
-fn step(q: [u64; 8], x: Operand) -> [u64; 8]
-    requires { ⌜ x .shift < 512 ⌝ }
-    ensures { λ r. ⌜ r ≡ words 512 (plus 512 (fromWords 512 q) (brought x)) ⌝ }
+    ensures { λ r. ⌜ r ≡ words 512 (moved added (fromWords 512 q) (brought x)) ⌝ }
 {
     if x.nar {
-        return [NAR_WORD, 0, 0, 0, 0, 0, 0, 0];
+        return not_real();
     }
     if is_alone(q, NAR_WORD) {
-        return [NAR_WORD, 0, 0, 0, 0, 0, 0, 0];
+        return not_real();
     }
-    judged(q, x.negative, add(q, placed(x), x.negative))
+    let negative = x.negative == added;
+    judged(
+        q,
+        negative,
+        add(q, placed(negative, x.shift, x.significand), negative),
+    )
 }
 
-// The words of an operand. Where it is below 0 they are complemented, and the one that its negative lacks is carried into the sum.
-fn placed(x: Operand) -> [u64; 8]
-    requires { ⌜ x .shift < 512 ⌝ }
-    ensures { λ r. ⌜ wide r ≡ turned (x .negative) (2 ^ 512 - 1) (amount x) ⌝ }
+// The words of NaR.
+fn not_real() -> [u64; 8]
+    ensures { λ r. ⌜ r ≡ words 512 notReal ⌝ }
 {
-    let j = (x.shift / 64) as usize;
-    let o = x.shift % 64;
-    let mut r = [turned_word(0, x.negative); 8];
-    r[7 - j] = turned_word((x.significand >> 1) >> (63 - o), x.negative);
+    [NAR_WORD, 0, 0, 0, 0, 0, 0, 0]
+}
+
+// The words of a significand at its place. Below 0 they are complemented, and the one that the negative lacks is carried into the sum.
+fn placed(negative: bool, shift: u32, significand: u64) -> [u64; 8]
+    requires { ⌜ shift < 512 ⌝ }
+    ensures { λ r. ⌜ wide r ≡ turned negative (2 ^ 512 - 1) (amount shift significand) ⌝ }
+{
+    let j = (shift / 64) as usize;
+    let o = shift % 64;
+    let mut r = [turned_word(0, negative); 8];
+    r[7 - j] = turned_word((significand >> 1) >> (63 - o), negative);
     if j == 0 {
         return r;
     }
-    r[8 - j] = turned_word(x.significand << o, x.negative);
+    r[8 - j] = turned_word(significand << o, negative);
     r
 }
 
@@ -148,7 +148,7 @@ fn judged(before: [u64; 8], negative: bool, after: [u64; 8]) -> [u64; 8]
     ensures { λ r. ⌜ wide r ≡ cond (escaped (leb (2 ^ 511) (wide before)) negative (leb (2 ^ 511) (wide after))) (2 ^ 511) (wide after) ⌝ }
 {
     if sign_of(before) + 2 * sign_of(after) == 2 - negative as u64 {
-        [NAR_WORD, 0, 0, 0, 0, 0, 0, 0]
+        not_real()
     } else {
         after
     }

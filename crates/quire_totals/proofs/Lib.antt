@@ -1,2 +1,3 @@
 -- The laws that the functions' proofs use.
 pub mod Leads
+pub mod Parts

@@ -1,5 +1,5 @@
 -- `cleared` meets its contract.
-use Rattle.quire_steps.proofs.Stepped.{clear-spelt}
+use Rattle.quire_steps.proofs.Words.{clear-spelt}
 use Rattle.quire_steps.proofs.cleared.Statement.{statement}
 use Rattle.quire_steps.proofs.cleared.Tie as tie
 

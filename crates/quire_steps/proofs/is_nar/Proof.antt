@@ -1,7 +1,7 @@
 -- `is_nar` meets its contract: 2 ^ 511 is the one number of NaR.
 use mathlib.Core.Path.{_∙_}
 use borrow.Author.Needs.{needs}
-use Rattle.quire_steps.proofs.Stepped.{nar-seen}
+use Rattle.quire_steps.proofs.Words.{nar-seen}
 use Rattle.quire_steps.proofs.is_nar.Statement.{statement}
 use Rattle.quire_steps.proofs.is_nar.Tie as tie
 

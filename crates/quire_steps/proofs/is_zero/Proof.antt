@@ -2,7 +2,7 @@
 use mathlib.Core.Path.{_∙_}
 use borrow.Author.Needs.{needs}
 use Rattle.quire_words.proofs.Places.{wide-typed}
-use Rattle.quire_steps.proofs.Stepped.{clear-seen}
+use Rattle.quire_steps.proofs.Words.{clear-seen}
 use Rattle.quire_steps.proofs.is_zero.Statement.{statement}
 use Rattle.quire_steps.proofs.is_zero.Tie as tie
 

@@ -7,7 +7,8 @@ use borrow.Author.Needs.{needs}
 use borrow.Author.Tests.{eq-eqb, ne-eqb}
 use lib.Dec.{eqb, leb}
 use mir.Val.{boolByte}
-use Rattle.posit.specs.Digits.{number}
+use Rattle.posit.specs.Digits.{number, digits}
+use Rattle.posit.specs.Accumulator.{bitsOf, words}
 use Rattle.quire_words.specs.Words.{wide}
 use Rattle.quire_steps.specs.Operand.{escaped}
 use Rattle.quire_words.proofs.Places.{digit-le}
@@ -48,12 +49,16 @@ seen false false false = refl
 tested : (b s a t : Bool) (x y : ℕ) → x ≡ boolByte b → y ≡ boolByte a → eqb (x + 2 * y) (2 - boolByte s) ≡ t → escaped b s a ≡ t
 tested b s a t x y ex ey e = sym (seen b s a) ∙ ap₂ (λ (u v : ℕ). eqb (u + 2 * v) (2 - boolByte s)) (sym ex) (sym ey) ∙ e
 
+not-real-requires : tie.Need-not-real-requires
+not-real-requires c κs = search needs
+
 returns : tie.Need-returns
-unfolding number
+unfolding number words bitsOf digits
 returns c =
-    let k = c .before .before .before .args in
-    let out = tested (leb (2 ^ 511) (wide (k .before))) (k .negative) (leb (2 ^ 511) (wide (k .after))) true _ _ (c .before .before .sign-of .ensures) (c .before .sign-of2 .ensures) (eq-eqb _ _ (c .if1 .taken)) in
-    rw out
+    let at = c .before .before in
+    let k = at .before .before .args in
+    let out = tested (leb (2 ^ 511) (wide (k .before))) (k .negative) (leb (2 ^ 511) (wide (k .after))) true _ _ (at .before .sign-of .ensures) (at .sign-of2 .ensures) (eq-eqb _ _ (c .before .if1 .taken)) in
+    rw (out, c .not-real .ensures)
 
 returns-2 : tie.Need-returns-2
 returns-2 c =
@@ -71,5 +76,6 @@ judged-spec =
     add-if1
     cast-if1
     sub-if1
+    not-real-requires
     returns
     returns-2)

@@ -2,7 +2,8 @@
 use mathlib.Core.Path.{_∙_}
 use borrow.Author.Needs.{needs}
 use Rattle.quire_words.proofs.Places.{words-typed, wide-typed}
-use Rattle.quire_steps.proofs.Stepped.{spelt, negated-bits}
+use Rattle.quire_steps.proofs.Words.{spelt}
+use Rattle.quire_steps.proofs.Stepped.{negated-bits}
 use Rattle.quire_steps.proofs.neg.Statement.{statement}
 use Rattle.quire_steps.proofs.neg.Tie as tie
 

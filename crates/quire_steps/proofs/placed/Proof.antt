@@ -36,8 +36,8 @@ array-write-r c = search needs
 
 returns : tie.Need-returns
 returns c =
-    let a = c .before .before .before .before .before .before .args .x in
-    placed-low (a .negative) (a .significand) (a .shift) _ _ (omega arith) (c .before .before .before .turned-word .ensures) (c .before .turned-word2 .ensures) (omega arith)
+    let a = c .before .before .before .args in
+    placed-low (a .negative) (a .significand) (a .shift) _ _ (omega arith) (c .before .before .turned-word .ensures) (c .before .turned-word2 .ensures) (omega arith)
 
 cast-turned-word-2 : tie.Need-cast-turned-word-2
 cast-turned-word-2 c = search needs
@@ -59,10 +59,10 @@ array-write-r-2 c = search needs
 
 returns-2 : tie.Need-returns-2
 returns-2 c =
-    let k = c .before .before .before .before .before .before .before .before in
-    let a = k .args .x in
+    let k = c .before .before .before .before in
+    let a = k .args in
     let j : a .shift / 64 ≡ suc (a .shift / 64 - 1) = omega arith in
-    placed-high (a .negative) (a .significand) (a .shift) _ _ (omega arith) (c .before .before .before .before .before .turned-word .ensures) (c .before .before .before .turned-word2 .ensures) _ _ j (k .pre) (c .turned-word3 .ensures)
+    placed-high (a .negative) (a .significand) (a .shift) _ _ (omega arith) (c .before .before .before .turned-word .ensures) (c .before .before .turned-word2 .ensures) _ _ j (k .pre) (c .turned-word3 .ensures)
 
 pub placed-spec : {M : Type 1} → statement M
 placed-spec =

@@ -1,33 +1,44 @@
--- `step` meets its contract: NaR before or as operand stays NaR; else the words that were judged have the number of the new state (`stepped-bits`).
+-- `step` meets its contract: NaR before or as operand stays NaR; else the words that were judged have the number of the new state (`stepped-bits`), the operand having
+-- the sign that the direction gives it (`directed`).
 use mathlib.Core.Path.{_≡_, sym, ap, _∙_}
+use mathlib.Core.Bool.{Bool·beq}
 use Prim.Native.Nat.{ℕ, _+_, _%_, _^_}
 use native.Mathlib.Omega.{arith}
+use borrow.Author.Needs.{needs}
 use borrow.Author.Tests.{eqb-true, eqb-false}
 use mir.Val.{boolByte}
-use Rattle.posit.specs.Accumulator.{notReal, total, plus, bitsOf, words, fromWords}
+use Rattle.posit.specs.Accumulator.{notReal, total, bitsOf, words, fromWords}
 use Rattle.posit.proofs.Signs.{withSign}
 use Rattle.quire_words.specs.Words.{wide}
 use Rattle.quire_steps.specs.Operand.{amount, brought}
+use Rattle.quire_steps.specs.Step.{moved}
 use Rattle.quire_words.proofs.Places.{words-typed, wide-typed}
-use Rattle.quire_steps.proofs.Stepped.{nar-spelt, plus-nar, nar-plus, read-nar, spelt, amount-below, stepped-bits}
-use borrow.Author.Needs.{needs}
+use Rattle.quire_steps.proofs.Words.{read-nar, spelt}
+use Rattle.quire_steps.proofs.Stepped.{nar-moves, moved-by-nar, directed, amount-below, stepped-bits}
 use Rattle.quire_steps.proofs.step.Statement.{statement}
 use Rattle.quire_steps.proofs.step.Tie as tie
 
+not-real-requires : tie.Need-not-real-requires
+not-real-requires c κs = search needs
+
 returns : tie.Need-returns
 returns c =
-    let x = c .before .args .x in
-    let nar : brought x ≡ notReal = rw (c .if1 .taken) in
-    nar-spelt ∙ ap (words 512) (sym (ap (plus 512 (fromWords 512 (c .before .args .q))) nar ∙ plus-nar (fromWords 512 (c .before .args .q))))
+    let a = c .before .before .args in
+    let nar : brought (a .x) ≡ notReal = rw (c .before .if1 .taken) in
+    c .not-real .ensures ∙ ap (words 512) (sym (ap (moved (a .added) (fromWords 512 (a .q))) nar ∙ moved-by-nar (a .added) (fromWords 512 (a .q))))
 
 is-alone-requires : tie.Need-is-alone-requires
 is-alone-requires c κs = search needs
 
+not-real-requires-2 : tie.Need-not-real-requires-2
+not-real-requires-2 c κs = search needs
+
 returns-2 : tie.Need-returns-2
 returns-2 c =
-    let a = c .before .before .before .args in
-    let nar = read-nar (a .q) (eqb-true (wide (a .q)) (2 ^ 511) (sym (c .before .is-alone .ensures) ∙ c .if2 .taken)) in
-    nar-spelt ∙ ap (words 512) (sym (ap (λ q. plus 512 q (brought (a .x))) nar ∙ nar-plus (brought (a .x))))
+    let at = c .before .before in
+    let a = at .before .before .args in
+    let nar = read-nar (a .q) (eqb-true (wide (a .q)) (2 ^ 511) (sym (at .is-alone .ensures) ∙ c .before .if2 .taken)) in
+    c .not-real2 .ensures ∙ ap (words 512) (sym (ap (λ q. moved (a .added) q (brought (a .x))) nar ∙ nar-moves (a .added) (brought (a .x))))
 
 placed-requires : tie.Need-placed-requires
 placed-requires c κs = search needs
@@ -40,25 +51,30 @@ judged-requires c κs = search needs
 
 returns-3 : tie.Need-returns-3
 returns-3 c =
-    let k = c .before .before .before .before .before .before in
+    let tested = c .before .before .before .before in
+    let k = tested .before .before .before in
     let q = k .args .q in
     let x = k .args .x in
+    let s = Bool·beq (x .negative) (k .args .added) in
+    let m = amount (x .shift) (x .significand) in
     let short = wide-typed q (k .good .0) in
     let r = words-typed 8 (c .judged .result) (c .judged .ok) in
-    let real : brought x ≡ total (withSign (x .negative) (amount x)) = rw (c .before .before .before .before .before .if1 .left) in
-    let ne = eqb-false (wide q) (2 ^ 511) (sym (c .before .before .before .before .is-alone .ensures) ∙ c .before .before .before .if2 .left) in
-    let sum = c .before .add .ensures ∙ ap (λ (n : ℕ). (wide q + n + boolByte (x .negative)) % 2 ^ 512) (c .before .before .placed .ensures) in
+    let real : brought x ≡ total (withSign (x .negative) m) = rw (tested .before .before .if1 .left) in
+    let ne = eqb-false (wide q) (2 ^ 511) (sym (tested .before .is-alone .ensures) ∙ tested .if2 .left) in
+    let sum = c .before .add .ensures ∙ ap (λ (n : ℕ). (wide q + n + boolByte s) % 2 ^ 512) (c .before .before .placed .ensures) in
     spelt _ (c .judged .result) (r .0) (r .1)
     (c .judged .ensures
-    ∙ stepped-bits (x .negative) q (amount x) _ ne short (amount-below (x .significand) (x .shift) (omega arith) (k .pre)) sum
-    ∙ ap (λ y. bitsOf 512 (plus 512 (fromWords 512 q) y)) (sym real))
+    ∙ stepped-bits s q m _ ne short (amount-below (x .significand) (x .shift) (omega arith) (k .pre)) sum
+    ∙ ap (bitsOf 512) (directed (k .args .added) (x .negative) (fromWords 512 q) m ∙ ap (moved (k .args .added) (fromWords 512 q)) (sym real)))
 
 pub step-spec : {M : Type 1} → statement M
 step-spec =
     tie.close
     (tie.spec
+    not-real-requires
     returns
     is-alone-requires
+    not-real-requires-2
     returns-2
     placed-requires
     add-requires

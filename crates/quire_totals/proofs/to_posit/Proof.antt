@@ -13,7 +13,7 @@ use Rattle.quire_words.specs.Words.{wide}
 use Rattle.quire_words.proofs.Places.{words-typed, wide-typed}
 use Rattle.quire_words.proofs.First.{sign-seen}
 use Rattle.quire_steps.proofs.Range.{size-positive, sign-and-size}
-use Rattle.quire_steps.proofs.Stepped.{read-nar, read-clear, read-real}
+use Rattle.quire_steps.proofs.Words.{read-nar, read-clear, read-real}
 use Rattle.quire_totals.proofs.to_posit.Statement.{statement}
 use Rattle.quire_totals.proofs.to_posit.Tie as tie
 

@@ -6,7 +6,7 @@ use borrow.Author.Needs.{needs}
 use lib.ListN.{length, drop}
 use Rattle.posit.specs.Accumulator.{plus, ofProduct, words, fromWords}
 use Rattle.desk.specs.Batch.{batch}
-use Rattle.quire_steps.proofs.Stepped.{plus-read}
+use Rattle.quire_steps.proofs.Kept.{plus-read}
 use Rattle.desk.proofs.Spelt.{words-back}
 use Rattle.desk.proofs.Summed.{batch-turn, batch-end}
 use Rattle.desk.proofs.batch.sum_of.Statement.{statement}

@@ -8,7 +8,7 @@ use borrow.Author.Needs.{needs}
 use Rattle.posit.specs.Accumulator.{clear, image, words, fromWords}
 use Rattle.desk.specs.Batch.{batch}
 use Rattle.posit.specs.Digits.{same}
-use Rattle.quire_steps.proofs.Stepped.{zeroWords}
+use Rattle.quire_steps.proofs.Words.{zeroWords}
 use Rattle.desk.proofs.Summed.{rebuilt}
 use Rattle.desk.proofs.Refused.{unequal, too-many, no-refusal, claim-refused, claim-of-other-length, claim-compared}
 use Rattle.desk.proofs.claim.check_claim.Statement.{statement}

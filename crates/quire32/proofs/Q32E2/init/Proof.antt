@@ -1,5 +1,5 @@
 -- `Q32E2::init` meets its contract: its words are those of `clear`.
-use Rattle.quire_steps.proofs.Stepped.{clear-spelt}
+use Rattle.quire_steps.proofs.Words.{clear-spelt}
 use Rattle.quire32.proofs.Q32E2.init.Statement.{statement}
 use Rattle.quire32.proofs.Q32E2.init.Tie as tie
 
