@@ -1,5 +1,5 @@
 #!/usr/bin/env python3
-"""Works out the cases of crates/posit/proofs/Vectors.antt.
+"""Works out the cases of crates/posit/proofs/Vectors.antt, and those of crates/unpacking/proofs/Vectors.antt.
 
 How the list was made. The inputs below were chosen by hand, except FUSED: those were searched for at random, until rounding the
 product first gave another answer. The answers are worked out here with exact rationals, from the Posit Standard (2022), with any
@@ -9,7 +9,7 @@ rationals; words and images are Python's own signed integers in bytes. The accum
 of the standard. They follow our own rules, and some of the desk's answers are just written down.
 
     python3 tools/vectors.py          prints the cases
-    python3 tools/vectors.py --check  says whether Vectors.antt holds just these cases, line for line
+    python3 tools/vectors.py --check  says whether the two files hold just these cases, line for line
 """
 import sys
 from fractions import Fraction
@@ -178,7 +178,7 @@ def lists(*xs):
 
 
 def shown(x):
-    """How `shown` of Vectors.antt tells a whole number: 1 for below 0, then the size."""
+    """How `shown` of Table.antt tells a whole number: 1 for below 0, then the size."""
     return [int(x < 0), abs(x)]
 
 
@@ -258,13 +258,6 @@ def build():
         u = 2 ** es * (n - 2)
         for p in PATTERNS[n, es]:
             case(f"shown (value {es} {n - 1} {u} {num(p, n)})", shown(int(value(n, es, p) * 2 ** u)))
-    group("unpacked: the sign, k, e, and the significand with its leading one at bit w - 1; [] for 0 and one 0 for NaR")
-    for n, es in SIZES:
-        for p in UNPACKED[n, es]:
-            s, k, e, f = fields(format(2 ** n - p if p >> n - 1 else p, f"0{n}b"), es)
-            case(f"split (parts {es} {n - 1} {num(p, n)})", [p >> n - 1, *shown(k), e, int((1 + f) * 2 ** (n - 2))])
-    case("split (parts 2 31 0)", [])
-    case("split (parts 2 31 0x80000000)", [0])
 
     group("rounded at the ends: the largest size is itself and takes all above it; no size above 0 goes to 0")
     for n, es in SIZES:
@@ -372,6 +365,16 @@ def build():
     case("held (afterBatch 2 31 512 (total (pos 7)) (0x1 ∷ []) (0x1 ∷ []))", held(8))
 
 
+def build_unpacked():
+    group("the sign, k, e, and the significand with its leading one at bit w - 1; [] for 0 and one 0 for NaR")
+    for n, es in SIZES:
+        for p in UNPACKED[n, es]:
+            s, k, e, f = fields(format(2 ** n - p if p >> n - 1 else p, f"0{n}b"), es)
+            case(f"listed (parts {es} {n - 1} {num(p, n)})", [p >> n - 1, *shown(k), e, int((1 + f) * 2 ** (n - 2))])
+    case("listed (parts 2 31 0)", [])
+    case("listed (parts 2 31 0x80000000)", [0])
+
+
 def printed():
     out, first = [], True
     for line in table:
@@ -381,14 +384,25 @@ def printed():
     return out + ["    ∷ []"]
 
 
+FILES = {"crates/posit/proofs/Vectors.antt": build, "crates/unpacking/proofs/Vectors.antt": build_unpacked}
+
+
+def stored(file):
+    return open(file, encoding="utf-8").read().split("vectors =\n")[1].split("\n\n")[0]
+
+
 def main():
-    build()
-    if sys.argv[1:] == ["--check"]:
-        stored = open("crates/posit/proofs/Vectors.antt", encoding="utf-8").read().split("vectors =\n")[1].split("\n\n")[0]
-        same = stored == "\n".join(printed())
-        print("the same" if same else "not the same")
-        sys.exit(not same)
-    print("\n".join(printed()))
+    faults = 0
+    for file, make in FILES.items():
+        table.clear()
+        make()
+        if sys.argv[1:] == ["--check"]:
+            same = stored(file) == "\n".join(printed())
+            faults += not same
+            print(f"{file}: {'the same' if same else 'not the same'}")
+        else:
+            print("\n".join([file, *printed()]))
+    sys.exit(faults > 0)
 
 
 if __name__ == "__main__":

@@ -5,8 +5,9 @@ mod ops; // ops.rt: the arithmetic
 ghost use mathlib.Core.Path.{_≡_};
 ghost use Prim.Native.Nat.{_^_};
 ghost use lib.Dec.{eqb};
-ghost use Rattle.posit.specs.Pattern.{nar, parts};
+ghost use Rattle.posit.specs.Pattern.{nar};
 ghost use Rattle.posit.specs.Operation.{quotient};
+ghost use Rattle.unpacking.specs.Parts.{parts};
 ghost use Rattle.unpacking.specs.Unpacked.{meaning};
 ghost use Rattle.p32e2.specs.Constants.{patterns};
 pub use unpacking::Unpacked;

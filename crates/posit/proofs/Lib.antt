@@ -13,13 +13,13 @@ pub mod Packing
 pub mod Signs
 pub mod Value
 pub mod Word
-pub mod Parts
+pub mod Unsigned
 pub mod Finer
 pub mod Operation
 pub mod Quotient
 pub mod Digits
 pub mod Complement
 pub mod State
-mod Table
+pub mod Table
 mod Sheet
 mod Vectors

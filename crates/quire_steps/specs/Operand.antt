@@ -1,27 +1,11 @@
 -- What the inner functions of a step tell each other. No public contract is told by these.
-use mathlib.Core.Path.{_≡_}
 use mathlib.Core.Bool.{Bool, true, false, cond, not, Bool·beq, _&&_}
-use Prim.Native.Nat.{ℕ, _+_, _-_, _*_, _/_, _^_, _<_}
-use lib.Dec.{eqb}
-use lib.IntN.{ℤ}
-use Rattle.posit.specs.Pattern.{nar, value}
+use Prim.Native.Nat.{ℕ, _-_, _*_, _/_, _^_}
 use Rattle.posit.specs.Accumulator.{State, notReal, total, negated}
 use Rattle.posit.proofs.Signs.{withSign}
 use Rattle.quire_steps.specs.declared.operands.Operand.{Operand}
 
--- the value of the pattern p, which is not NaR, is g * 2 ^ c units of 2 ^ - 150 with its sign: `size` units of 2 ^ - 120
-pub record Factored (p : ℕ) (negative : Bool) (c g : ℕ) : Type 0 where
-  pub size : ℕ
-  pub values : (i : ℕ) → value 2 31 (120 + i) p ≡ withSign negative (size * 2 ^ i)
-  pub scaled : size * 2 ^ 30 ≡ g * 2 ^ c
-
-pub record IsFactor (p : ℕ) (isNar negative : Bool) (c g : ℕ) : Type 0 where
-  pub nar-is : isNar ≡ eqb p (nar 31)
-  pub told : isNar ≡ false → Factored p negative c g
-  pub scale-below : c < 244
-  pub significand-below : g < 2 ^ 31
-
--- the size of an operand, in units of 2 ^ - 240
+-- the size of an operand, in units of 2 ^ - 240: it is counted in units that are one word finer, and none of the digits below are left
 abbrev pub amount : Operand → ℕ
 amount x = x .significand * 2 ^ x .shift / 2 ^ 64
 
