@@ -1,5 +1,5 @@
 #!/usr/bin/env python3
-"""Works out the cases of proofs/Vectors.antt of the crates that define something: posit and desk.
+"""Works out the cases of proofs/Vectors.antt of the crates that define something.
 
 How the list was made. The inputs below were chosen by hand, except FUSED: those were searched for at random, until rounding the
 product first gave another answer. The answers are worked out here with exact rationals, from the Posit Standard (2022), with any
@@ -258,13 +258,6 @@ def posit():
         u = 2 ** es * (n - 2)
         for p in PATTERNS[n, es]:
             case(f"shown (value {es} {n - 1} {u} {num(p, n)})", shown(int(value(n, es, p) * 2 ** u)))
-    group("unpacked: the sign, k, e, and the significand with its leading one at bit w - 1; [] for 0 and one 0 for NaR")
-    for n, es in SIZES:
-        for p in UNPACKED[n, es]:
-            s, k, e, f = fields(format(2 ** n - p if p >> n - 1 else p, f"0{n}b"), es)
-            case(f"split (parts {es} {n - 1} {num(p, n)})", [p >> n - 1, *shown(k), e, int((1 + f) * 2 ** (n - 2))])
-    case("split (parts 2 31 0)", [])
-    case("split (parts 2 31 0x80000000)", [0])
 
     group("rounded at the ends: the largest size is itself and takes all above it; no size above 0 goes to 0")
     for n, es in SIZES:
@@ -376,6 +369,16 @@ def desk():
     case("held (afterBatch 2 31 512 (total (pos 7)) (0x1 ∷ []) (0x1 ∷ []))", held(8))
 
 
+def unpacking():
+    group("the sign, k, e, and the significand with its leading one at bit w - 1; [] for 0 and one 0 for NaR")
+    for n, es in SIZES:
+        for p in UNPACKED[n, es]:
+            s, k, e, f = fields(format(2 ** n - p if p >> n - 1 else p, f"0{n}b"), es)
+            case(f"listed (parts {es} {n - 1} {num(p, n)})", [p >> n - 1, *shown(k), e, int((1 + f) * 2 ** (n - 2))])
+    case("listed (parts 2 31 0)", [])
+    case("listed (parts 2 31 0x80000000)", [0])
+
+
 def printed():
     out, first = [], True
     for line in table:
@@ -385,7 +388,7 @@ def printed():
     return out + ["    ∷ []"]
 
 
-CRATES = {"posit": posit, "desk": desk}
+CRATES = {"posit": posit, "unpacking": unpacking, "desk": desk}
 
 
 def cases_of(crate):

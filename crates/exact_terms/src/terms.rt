@@ -25,7 +25,7 @@ pub(crate) fn term_of(p: u32) -> Term
     let s = scaled_of(p);
     Term {
         negative: p > NAR,
-        scale: s.scale + 512,
+        scale: s.scale + 904,
         significand: (s.significand as u64) << 32,
     }
 }
@@ -45,7 +45,7 @@ fn multiplied(negative: bool, x: Scaled, y: Scaled) -> Term
     ensures { λ r. ⌜ (r .negative ≡ negative) × Multiplied (x .significand * y .significand) (x .scale + y .scale) (r .scale) (r .significand) ⌝ }
 {
     let n = (x.significand as u64) * (y.significand as u64);
-    let scale = x.scale + y.scale;
+    let scale = x.scale + y.scale + 784;
     if n < 0x2000_0000_0000_0000 {
         Term {
             negative,

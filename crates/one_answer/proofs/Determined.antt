@@ -12,9 +12,10 @@ use mir.Syntax.{w64}
 use lib.Dec.{eqb}
 use lib.ListN.{length}
 use lib.Pow.{pow-pos, pow-mono, pow-add, shl-lt, shl-shr}
-use Rattle.posit.specs.Pattern.{Parts, isZero, isNaR, isReal, nar, unsigned}
+use Rattle.posit.specs.Pattern.{nar, unsigned}
 use Rattle.posit.specs.Digits.{digits}
 use Rattle.posit.proofs.Digits.{digits-number}
+use Rattle.unpacking.specs.Parts.{Parts, isZero, isNaR, isReal}
 use Rattle.unpacking.specs.Unpacked.{meaning}
 use Rattle.unpacking.specs.Scaled.{InScale, Scales, IsScaled}
 use Rattle.unpacking.specs.declared.Unpacked.{Unpacked}

@@ -6,8 +6,9 @@ ghost use mathlib.Core.Path.{_≡_};
 ghost use mathlib.Core.List.{[], _∷_};
 ghost use Prim.Native.Nat.{_-_, _^_};
 ghost use lib.Dec.{eqb};
-ghost use Rattle.posit.specs.Pattern.{nar, opposite, parts};
+ghost use Rattle.posit.specs.Pattern.{nar, opposite};
 ghost use Rattle.posit.specs.Operation.{quotient};
+ghost use Rattle.unpacking.specs.Parts.{parts};
 ghost use Rattle.unpacking.specs.Unpacked.{meaning};
 pub use unpacking::Unpacked;
 

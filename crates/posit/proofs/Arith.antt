@@ -1,7 +1,7 @@
 -- Facts on numbers that several files need: remainders of products, sums of powers, one less than the next.
 use mathlib.Core.Path.{_≡_, sym, ap, _∙_}
 use Prim.Native.Nat.{ℕ, suc, _+_, _-_, _*_, _%_, _^_, _<_}
-use native.Mathlib.Nat.{add-zero, mul-comm, mul-div-cancel, mul-mod-left}
+use native.Mathlib.Nat.{add-zero, mul-comm, mul-assoc, mul-div-cancel, mul-mod-left}
 use native.Mathlib.Omega.{arith}
 use lib.Arith.{mod-mul}
 use lib.Pow.{pow-add}
@@ -17,3 +17,7 @@ mul-mod-mul-left a {m} {c} h k = rw (mul-comm c a, mul-comm c m, mul-comm c (a %
 
 pub pow-sum : (a b c : ℕ) → a + b ≡ c → 2 ^ a * 2 ^ b ≡ 2 ^ c
 pow-sum a b c e = sym (pow-add 2 a b) ∙ ap (λ (k : ℕ). 2 ^ k) e
+
+-- digits move from one power to the other
+pub same-power : (z a b c d : ℕ) → a + b ≡ c + d → z * 2 ^ a * 2 ^ b ≡ z * 2 ^ c * 2 ^ d
+same-power z a b c d e = mul-assoc z (2 ^ a) (2 ^ b) ∙ ap (λ (n : ℕ). z * n) (pow-sum a b (c + d) e ∙ pow-add 2 c d) ∙ sym (mul-assoc z (2 ^ c) (2 ^ d))

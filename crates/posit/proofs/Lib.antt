@@ -13,7 +13,7 @@ pub mod Packing
 pub mod Signs
 pub mod Value
 pub mod Word
-pub mod Parts
+pub mod Unsigned
 pub mod Finer
 pub mod Operation
 pub mod Quotient

@@ -15,7 +15,7 @@ use lib.Pow.{pow-pos}
 use Rattle.posit.specs.Pattern.{nar, opposite, size, value, least, unit}
 use Rattle.posit.specs.Operation.{unlessNar, exact, exactProduct, roundedHere, sum, difference, product, quotient, fusedSum, fusedDifference, productTaken}
 use Rattle.posit.proofs.Signs.{negated-product}
-use Rattle.posit.proofs.Value.{opposite-is, opposite-twice, opposite-positive, value-positive, value-negative, rounded-own}
+use Rattle.posit.proofs.Value.{opposite-is, opposite-twice, opposite-positive, value-zero, value-positive, value-negative, rounded-own}
 
 -- ---- the opposite of a pattern has the opposite value
 
@@ -32,12 +32,8 @@ module _ (w : ℕ) where
   opposite-real (suc p) k n e = n (sym (opposite-twice w (suc p) (omega arith) k) ∙ ap (opposite w) e ∙ opposite-nar)
 
 module _ (es w u : ℕ) where
-  value-zero : value es w u 0 ≡ pos 0
-  unfolding value
-  value-zero = refl
-
   pub value-opposite : (p : ℕ) → p < 2 ^ suc w → p ≢ nar w → value es w u (opposite w p) ≡ negℤ (value es w u p)
-  value-opposite zero k n = ap (value es w u) (opposite-zero w) ∙ value-zero ∙ ap negℤ (sym value-zero)
+  value-opposite zero k n = ap (value es w u) (opposite-zero w) ∙ value-zero es w u ∙ ap negℤ (sym (value-zero es w u))
   value-opposite (suc p) k n = go (decLt (suc p) (2 ^ w))
     where
       twice : opposite w (opposite w (suc p)) ≡ suc p

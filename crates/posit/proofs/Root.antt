@@ -1,5 +1,5 @@
--- The square root by its cases, and the root of a positive pattern in other units: the size that the root is taken of may be told in units that are
--- j digits finer, and the root itself in units that are i digits finer.
+-- The square root by its cases, and the root of a positive pattern in other units: the root itself may be told in units that are i digits finer, and the size
+-- that it is taken of in units of 2 ^ - v for any v that is fine enough. The square of the root's unit is then 2 ^ n units of the size's.
 use mathlib.Core.Path.{_≡_, sym, ap, _∙_}
 use Prim.Native.Nat.{ℕ, suc, _+_, _-_, _*_, _^_, _≤_}
 use native.Mathlib.Nat.{mul-assoc, mul-pos, mul-le-mul-left}
@@ -11,12 +11,13 @@ use Rattle.posit.specs.Pattern.{nar, Positive, size, least, unit}
 use Rattle.posit.specs.Exact.{root}
 use Rattle.posit.specs.Rounding.{round}
 use Rattle.posit.specs.Operation.{squareRoot}
-use Rattle.posit.proofs.Size.{size-unit, size-positive}
+use Rattle.posit.proofs.Arith.{same-power}
+use Rattle.posit.proofs.Size.{size-by-least, size-positive}
 use Rattle.posit.proofs.Rounding.{fine-here}
 use Rattle.posit.proofs.Unit.{round-finer}
 
 pub same-powers : (z u i j n : ℕ) → u + (i + i) ≡ j + n → z * 2 ^ u * (2 ^ i * 2 ^ i) ≡ z * 2 ^ j * 2 ^ n
-same-powers z u i j n e = rw (mul-assoc, mul-assoc, ← pow-add, ← pow-add, ← pow-add, e)
+same-powers z u i j n e = rw (← pow-add 2 i i) (same-power z u (i + i) j n e)
 
 module _ (es w a : ℕ) where
   pub root-of-zero : a ≡ 0 → squareRoot es w a ≡ 0
@@ -44,13 +45,17 @@ module _ (es w a : ℕ) where
       wide : least es w ≤ unit es w
       wide = fine-here es w (unit es w) fine
 
-      same-square : (i j n : ℕ) → unit es w + (i + i) ≡ j + n → size es w (unit es w) a * 2 ^ unit es w * (2 ^ i * 2 ^ i) ≡ size es w (unit es w + j) a * 2 ^ n
-      same-square i j n e = rw (size-unit es (unit es w) j w a (k .0) (k .1) wide) (same-powers (size es w (unit es w) a) (unit es w) i j n e)
+      same-square : (i v n : ℕ) → least es w ≤ v → unit es w + i + (unit es w + i) ≡ v + n
+          → size es w (unit es w) a * 2 ^ unit es w * (2 ^ i * 2 ^ i) ≡ size es w v a * 2 ^ n
+      same-square i v n h e =
+          let z = size es w (least es w) a in
+          rw (size-by-least es (unit es w) w a (k .0) (k .1) wide, size-by-least es v w a (k .0) (k .1) h, mul-assoc z (2 ^ (unit es w - least es w)) (2 ^ unit es w), ← pow-add 2 (unit es w - least es w) (unit es w))
+          (same-powers z (unit es w - least es w + unit es w) i (v - least es w) n (omega arith))
 
-      pub root-in-units : (i j n : ℕ) → unit es w + (i + i) ≡ j + n
-          → squareRoot es w a ≡ round es w (unit es w + i) (root (size es w (unit es w + j) a * 2 ^ n))
-      root-in-units i j n e =
+      pub root-in-units : (i v n : ℕ) → least es w ≤ v → unit es w + i + (unit es w + i) ≡ v + n
+          → squareRoot es w a ≡ round es w (unit es w + i) (root (size es w v a * 2 ^ n))
+      root-in-units i v n h e =
           let sound = mul-pos (size-positive es (unit es w) w a (k .0) (k .1) wide) (pow-pos (unit es w)) in
           root-of-positive
           ∙ sym (round-finer es w (unit es w) i fine (root (size es w (unit es w) a * 2 ^ unit es w)) sound)
-          ∙ ap (λ (x : ℕ). round es w (unit es w + i) (root x)) (same-square i j n e)
+          ∙ ap (λ (x : ℕ). round es w (unit es w + i) (root x)) (same-square i v n h e)

@@ -203,8 +203,12 @@ has-digits : (w b : ℕ) → 0 < b → b < 2 ^ w → 0 < w
 has-digits zero b z k = omega arith
 has-digits (suc w) b z k = omega arith
 
+-- a size by the same in units of the smallest one
+pub size-by-least : (es u w b : ℕ) → 0 < b → b < 2 ^ w → least es w ≤ u → size es w u b ≡ size es w (least es w) b * 2 ^ (u - least es w)
+size-by-least es u w b z k h =
+    let e : least es w + (u - least es w) ≡ u = omega arith in
+    rw e at (size-unit es (least es w) (u - least es w) w b z k (le-refl (least es w)))
+
 -- every size is a whole number of the smallest one
 pub size-whole : (es u w b : ℕ) → 0 < b → b < 2 ^ w → least es w ≤ u → size es w u b ≡ size es w (least es w) b * size es w u 1
-size-whole es u w b z k h =
-    let e : least es w + (u - least es w) ≡ u = omega arith in
-    rw (smallest-size es u w (has-digits w b z k) h) (rw e at (size-unit es (least es w) (u - least es w) w b z k (le-refl (least es w))))
+size-whole es u w b z k h = rw (smallest-size es u w (has-digits w b z k) h) (size-by-least es u w b z k h)

@@ -32,6 +32,10 @@ opposite-positive w p z k = rw (opposite-is w p (omega arith) k) (omega arith, o
 -- ---- the value, by the sign
 
 module _ (es w u : ℕ) where
+  pub value-zero : value es w u 0 ≡ pos 0
+  unfolding value
+  value-zero = refl
+
   pub value-positive : (p : ℕ) → Positive w p → value es w u p ≡ pos (size es w u p)
   unfolding value
   value-positive p k = rw (ne-eqb p 0 (λ e. omega (arith, k .0)), le-ltb (2 ^ w) p (omega (arith, k .1)))

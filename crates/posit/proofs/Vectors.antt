@@ -3,25 +3,19 @@
 -- tools/vectors.py, which says how the inputs were chosen: it works with exact rationals from the Posit Standard (2022), and for the
 -- accumulator's range from our own rule. `python3 tools/vectors.py posit` prints the cases, and with `--check` it says whether those below are
 -- the same, line for line.
-use mathlib.Core.Bool.{cond}
 use mathlib.Core.List.{List, [], _∷_, _++_}
-use Prim.Native.Nat.{ℕ, suc, _+_, _-_, _*_, _^_}
-use lib.IntN.{ℤ, pos, negsuc}
+use Prim.Native.Nat.{ℕ, _+_, _-_, _*_, _^_}
+use lib.IntN.{pos, negsuc}
 use lib.Dec.{T}
 use lib.ListN.{replicate}
-use Rattle.posit.specs.Pattern.{value, parts, Parts, isZero, isNaR, isReal}
+use Rattle.posit.specs.Pattern.{value}
 use Rattle.posit.specs.Exact.{whole, ratio, root}
 use Rattle.posit.specs.Rounding.{round, rounded}
 use Rattle.posit.specs.Operation.{sum, difference, product, quotient, squareRoot, fusedSum, fusedDifference, productTaken}
-use Rattle.posit.specs.Accumulator.{State, notReal, total, clear, ofPosit, ofProduct, plus, negated, minus, toPosit, partsOf, bitsOf, stateOf, words, fromWords, image, fromImage}
+use Rattle.posit.specs.Accumulator.{notReal, total, ofPosit, ofProduct, plus, negated, minus, toPosit, partsOf, bitsOf, stateOf, words, fromWords, image, fromImage}
 use Rattle.posit.proofs.Computing.{everything}
 use Rattle.posit.proofs.Table.{Case, is, are, shown, held, holds}
 
--- the parts of a pattern: nothing for 0, one 0 for NaR, else the sign, k, e and the significand
-abbrev split : Parts → List ℕ
-split isZero = []
-split isNaR = 0 ∷ []
-split (isReal s k e m) = cond s 1 0 ∷ shown k ++ (e ∷ m ∷ [])
 
 vectors : List Case
 unfolding everything
@@ -52,15 +46,6 @@ vectors =
     ∷ are (shown (value 2 31 120 0x7ffffffe)) (0 ∷ 2 ^ 236 ∷ [])
     ∷ are (shown (value 2 31 120 0xcd555555)) (1 ∷ 0xaaaaaab * 2 ^ 91 ∷ [])
     ∷ are (shown (value 2 31 120 0x80000003)) (1 ∷ 2 ^ 234 ∷ [])
-    -- unpacked: the sign, k, e, and the significand with its leading one at bit w - 1; [] for 0 and one 0 for NaR
-    ∷ are (split (parts 0 7 0xa6)) (1 ∷ 0 ∷ 0 ∷ 0 ∷ 116 ∷ [])
-    ∷ are (split (parts 1 15 0x7ffd)) (0 ∷ 0 ∷ 12 ∷ 1 ∷ 2 ^ 14 ∷ [])
-    ∷ are (split (parts 2 15 0x0002)) (0 ∷ 1 ∷ 13 ∷ 0 ∷ 2 ^ 14 ∷ [])
-    ∷ are (split (parts 2 15 0xd123)) (1 ∷ 1 ∷ 1 ∷ 1 ∷ 30440 ∷ [])
-    ∷ are (split (parts 2 31 0x00000007)) (0 ∷ 1 ∷ 28 ∷ 3 ∷ 2 ^ 30 ∷ [])
-    ∷ are (split (parts 2 31 0x9abcdef0)) (1 ∷ 0 ∷ 1 ∷ 1 ∷ 0x543211 * 2 ^ 8 ∷ [])
-    ∷ are (split (parts 2 31 0)) []
-    ∷ are (split (parts 2 31 0x80000000)) (0 ∷ [])
     -- rounded at the ends: the largest size is itself and takes all above it; no size above 0 goes to 0
     ∷ are (round 0 7 12 (whole (2 ^ 18)) ∷ round 0 7 12 (whole 262145) ∷ round 0 7 12 (whole 1) ∷ []) (0x7f ∷ 0x7f ∷ 0x01 ∷ [])
     ∷ are (round 1 15 56 (whole (2 ^ 84)) ∷ round 1 15 56 (whole (2 ^ 84 + 1)) ∷ round 1 15 56 (whole 1) ∷ []) (0x7fff ∷ 0x7fff ∷ 0x0001 ∷ [])

@@ -1,5 +1,5 @@
 -- What a word shows of a pattern. The run is the count of zeros above the pattern, or above its complement for a run of ones. With the
--- digits behind the run at the top of w - 1 + es digits, the exponent and the significand are a quotient and a remainder by 2 ^ (w - 1).
+-- digits behind the run at the top of w - 1 + es digits, the exponent and the fraction are a quotient and a remainder by 2 ^ (w - 1).
 use mathlib.Core.Path.{_≡_, refl, sym, ap, _∙_}
 use mathlib.Core.Bool.{Bool, true, false, not}
 use Prim.Native.Nat.{ℕ, zero, suc, _+_, _-_, _*_, _/_, _%_, _^_, _≤_, _<_, zero-le, suc-le-suc}
@@ -8,7 +8,7 @@ use native.Mathlib.Decide.{ℕ-discrete, decLt}
 use native.Mathlib.Omega.{arith}
 use lib.Count.{leadingZeros, leading-length, leading-unique}
 use lib.Pow.{pow-pos, pow-add, high}
-use Rattle.posit.specs.Pattern.{run, first, left, exponent, fraction, significand}
+use Rattle.posit.specs.Pattern.{run, first, left, exponent, fraction}
 use Rattle.posit.proofs.Arith.{mul-mod-mul}
 use Rattle.posit.proofs.Built.{bit, run-more, run-ends, first-lt, the-other, digit-first}
 
@@ -134,11 +134,10 @@ module _ (es w b : ℕ) where
       ap (λ (n : ℕ). behind es w b / n) (split-by-left w b)
       ∙ mul-div-mul-right (b % 2 ^ left w b * 2 ^ es) (2 ^ left w b) (pow-pos (w - 1 - left w b))
 
-  pub behind-significand : 2 ^ (w - 1) + behind es w b % 2 ^ (w - 1) ≡ significand es w b
+  pub behind-fraction : behind es w b % 2 ^ (w - 1) ≡ fraction es w b * 2 ^ (w - 1 - left w b)
   unfolding fraction
-  behind-significand =
-      ap (λ (n : ℕ). 2 ^ (w - 1) + n)
-      (ap (λ (n : ℕ). behind es w b % n) (split-by-left w b) ∙ mul-mod-mul (b % 2 ^ left w b * 2 ^ es) (pow-pos (left w b)) (pow-pos (w - 1 - left w b)))
+  behind-fraction =
+      ap (λ (n : ℕ). behind es w b % n) (split-by-left w b) ∙ mul-mod-mul (b % 2 ^ left w b * 2 ^ es) (pow-pos (left w b)) (pow-pos (w - 1 - left w b))
 
   pub shifted-behind : 0 < w → b * 2 ^ (run (first w b) w b + es) % 2 ^ (w - 1 + es) ≡ behind es w b
   unfolding left

@@ -81,17 +81,3 @@ least es w = 2 ^ es * (w - 1)
 -- (1.8) the unit in which sums and products are told, 2 ^ - (2 * least): 2 ^ - 240 for P32E2
 abbrev pub unit : ℕ → ℕ → ℕ
 unit es w = 2 * least es w
-
--- (1.9) what unpacking answers: zero, NaR, or the sign (true below 0), k, e, and the significand 1 + f with its leading one at bit w - 1
-pub data Parts : Type 0 where
-  isZero : Parts
-  isNaR : Parts
-  isReal : Bool → ℤ → ℕ → ℕ → Parts
-
-abbrev pub significand : ℕ → ℕ → ℕ → ℕ
-significand es w b = 2 ^ (w - 1) + fraction es w b * 2 ^ (w - 1 - left w b)
-
-unfoldable pub parts : ℕ → ℕ → ℕ → Parts
-parts es w p =
-    let b = unsigned w p in
-    cond (eqb p 0) isZero (cond (eqb p (nar w)) isNaR (isReal (isNegative w p) (regime w b) (exponent es w b) (significand es w b)))

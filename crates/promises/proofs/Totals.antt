@@ -18,7 +18,7 @@ use Rattle.posit.specs.Operation.{exact, exactProduct}
 use Rattle.posit.specs.Accumulator.{State, notReal, total, kept, ofPosit, ofProduct, plus, minus, negated}
 use Rattle.posit.proofs.Size.{size-le, largest-size}
 use Rattle.posit.proofs.Signs.{withSign, by-sign, product-signs, sum-same, sum-unlike}
-use Rattle.posit.proofs.Parts.{unsigned-positive, value-real}
+use Rattle.posit.proofs.Unsigned.{unsigned-positive, value-real}
 use Rattle.quire_steps.proofs.Range.{size-of}
 use Rattle.promises.specs.History.{Step, addPosit, takePosit, addProduct, takeProduct, negate, throughImage, moves, totalFrom, Number, Numbers, WithoutNar, Within, StaysFrom}
 use Rattle.promises.proofs.Tracked.{stepped, after}

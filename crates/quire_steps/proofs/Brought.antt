@@ -1,117 +1,80 @@
--- A posit, or the exact product of two, as an operand of a step: what the parts of a pattern tell of its value, moved to the units of the accumulator. The
--- division by 2 ^ 64 in an operand's amount leaves no remainder (`undivided`).
-use mathlib.Core.Path.{_≡_, refl, sym, ap, ap₂, _∙_}
-use mathlib.Core.Bool.{Bool, true, false, cond, xor, _||_, true≢false}
-use Prim.Native.Nat.{ℕ, zero, suc, _+_, _-_, _*_, _/_, _%_, _^_, _≤_, _<_}
-use native.Mathlib.Nat.{mul-one, mul-div-cancel, zero-mul, mod-eq-of-lt}
+-- A posit, or the exact product of two, as an operand of a step: what scale and significand tell of a value, in units that are one word finer than those of the
+-- accumulator. The division by 2 ^ 64 in an operand's amount leaves no remainder, since the value is a whole number of the accumulator's units (`undivided`).
+use mathlib.Core.Path.{_≡_, refl, sym, ap, _∙_}
+use mathlib.Core.Logic.{_≢_}
+use mathlib.Core.Bool.{Bool, true, false, cond, xor, _||_}
+use Prim.Native.Nat.{ℕ, zero, suc, _+_, _-_, _*_, _/_, _^_, _<_}
+use native.Mathlib.Nat.{mul-assoc, mul-pos, mul-div-cancel}
 use native.Mathlib.Decide.{ℕ-discrete}
 use native.Mathlib.Omega.{arith}
 use borrow.Author.Tests.{eq-eqb, ne-eqb}
-use lib.Dec.{eqb, lit<, lit≤}
-use lib.IntN.{ℤ, pos, negsuc, natAbs, _*ℤ_}
+use lib.Dec.{eqb, lit≤}
+use lib.IntN.{ℤ, pos, negℤ, natAbs, _*ℤ_, pos-ne-negsuc}
 use lib.Pow.{pow-pos, pow-add}
-use Rattle.posit.specs.Pattern.{nar, unsigned, size, value, raised}
+use Rattle.posit.specs.Pattern.{nar, isNegative, value}
 use Rattle.posit.specs.Operation.{exact, exactProduct}
 use Rattle.posit.specs.Accumulator.{State, notReal, total, ofPosit, ofProduct}
-use Rattle.posit.proofs.Signs.{withSign, product-signs}
-use Rattle.posit.proofs.Size.{size-unit}
-use Rattle.posit.proofs.Parts.{Tells, unsigned-positive, value-real}
-use Rattle.rounding.proofs.Machine.{product-lt}
-use Rattle.quire_steps.specs.Operand.{Factored, IsFactor}
+use Rattle.posit.proofs.Signs.{withSign, by-sign, scaled-sign}
+use Rattle.posit.proofs.Unsigned.{value-unit}
+use Rattle.unpacking.specs.Scaled.{IsScaled}
+use Rattle.unpacking.proofs.Valued.{value-scaled, product-scaled}
+use Rattle.quire_steps.proofs.Range.{size-of}
 
--- ---- factors
+-- ---- a value that was moved up by a word
 
-pub zero-factor : IsFactor 0 false false 0 0
-unfolding value
-zero-factor =
-    record {
-      nar-is = refl;
-      told = λ _. record { size = 0; values = λ i. ap pos (sym (zero-mul (2 ^ i))); scaled = refl };
-      scale-below = lit< tt;
-      significand-below = lit< tt;
-    }
+-- a size above 0 has one sign
+unlike : (n : ℕ) → 0 < n → pos n ≢ negℤ (pos n)
+unlike zero h e = omega arith
+unlike (suc n) h e = pos-ne-negsuc (suc n) n e
 
-pub nar-factor : IsFactor (nar 31) true false 0 0
-nar-factor = record { nar-is = refl; told = λ e. absurd (true≢false e); scale-below = lit< tt; significand-below = lit< tt }
+same-sign : (s t : Bool) (m n : ℕ) → 0 < n → withSign t (m * n) ≡ withSign s (m * n) → withSign s m ≡ withSign t m
+same-sign true true m n h e = refl
+same-sign false false m n h e = refl
+same-sign true false zero n h e = refl
+same-sign true false (suc m) n h e = absurd (unlike (suc m * n) (mul-pos {m = suc m} (omega arith) h) e)
+same-sign false true zero n h e = refl
+same-sign false true (suc m) n h e = absurd (unlike (suc m * n) (mul-pos {m = suc m} (omega arith) h) (sym e))
 
--- a regime of at most 30 either way, in two units
-raised-both : (k : ℤ) → natAbs k < 31 → (raised 2 150 k ≡ raised 2 120 k + 30) × (raised 2 120 k ≤ 240)
-raised-both (pos k) h = omega arith
-raised-both (negsuc k) h = omega arith
+undivided : (x : ℤ) (s : Bool) (n : ℕ) → x *ℤ pos (2 ^ 64) ≡ withSign s n → withSign s (n / 2 ^ 64) ≡ x
+undivided x s n = by-sign (λ x. x *ℤ pos (2 ^ 64) ≡ withSign s n → withSign s (n / 2 ^ 64) ≡ x) go x
+  where
+    go : (t : Bool) (m : ℕ) → withSign t m *ℤ pos (2 ^ 64) ≡ withSign s n → withSign s (n / 2 ^ 64) ≡ withSign t m
+    go t m e =
+        let told = sym (scaled-sign t m (2 ^ 64)) ∙ e in
+        let whole : n ≡ m * 2 ^ 64 = sym (sym (size-of t (m * 2 ^ 64)) ∙ ap natAbs told ∙ size-of s n) in
+        rw (whole, mul-div-cancel m (pow-pos 64)) (same-sign s t m (2 ^ 64) (pow-pos 64) (rw whole at told))
 
-pub real-factor : (p : ℕ) (s : Bool) (k : ℤ) (e g : ℕ) → p < 2 ^ 32 → Tells 2 31 p s k e g → IsFactor p false s (raised 2 120 k + e) g
-real-factor p s k e g below t =
-    let b = unsigned 31 p in
-    let above = unsigned-positive 31 p below (t .not-zero) (t .not-nar) in
-    let r = raised-both k (t .regime-below) in
-    let c : raised 2 150 k + e - 30 ≡ raised 2 120 k + e = omega arith in
-    record {
-      nar-is = sym (ne-eqb p (nar 31) (t .not-nar));
-      told = λ _. record {
-        size = size 2 31 120 b;
-        values = λ i. value-real 2 31 p (120 + i) (t .not-zero) (t .not-nar)
-            ∙ ap₂ withSign (sym (t .sign-is)) (size-unit 2 120 i 31 b (above .0) (above .1) (lit≤ tt));
-        scaled = sym (size-unit 2 120 30 31 b (above .0) (above .1) (lit≤ tt)) ∙ t .size-is 150 (lit≤ tt) ∙ ap (λ (n : ℕ). g * 2 ^ n) c;
-      };
-      scale-below = omega (arith, t .exponent-below);
-      significand-below = t .significand-below;
-    }
-
--- ---- amounts
-
-undivided : (m d x : ℕ) → m * 2 ^ d ≡ x * 2 ^ 64 → m * 2 ^ d / 2 ^ 64 ≡ x
-undivided m d x e = ap (λ (n : ℕ). n / 2 ^ 64) e ∙ mul-div-cancel x (pow-pos 64)
-
--- a size of A is told by g and P, and z, w are what the powers of two come to
-moved-up : (A g P Q x y z w : ℕ) → A * Q ≡ g * P → Q * (x * y) ≡ z * w → g * x * (P * y) ≡ A * z * w
-moved-up A g P Q x y z w e f = omega (arith, ap (λ (t : ℕ). t * (x * y)) e, ap (λ (t : ℕ). A * t) f)
-
-multiplied : (A B g h P R Q x y w : ℕ) → A * Q ≡ g * P → B * Q ≡ h * R → Q * Q * (x * y) ≡ w → g * h * x * (P * R * y) ≡ A * B * w
-multiplied A B g h P R Q x y w e f k =
-    omega (arith, ap (λ (t : ℕ). t * (x * y)) (ap₂ _*_ e f), ap (λ (t : ℕ). A * B * t) k)
+amount-is : (x : ℤ) (s : Bool) (g c i : ℕ) → x *ℤ pos (2 ^ 64) ≡ withSign s (g * 2 ^ c * 2 ^ i) → withSign s (g * 2 ^ (c + i) / 2 ^ 64) ≡ x
+amount-is x s g c i e = undivided x s (g * 2 ^ (c + i)) (e ∙ ap (withSign s) (mul-assoc g (2 ^ c) (2 ^ i) ∙ ap (λ (n : ℕ). g * n) (sym (pow-add 2 c i))))
 
 -- ---- operands
 
-module _ (p : ℕ) (n s : Bool) (c g : ℕ) (f : IsFactor p n s c g) where
-  posit-amount : (t : Factored p s c g) → g * 2 ^ 32 % 2 ^ 64 * 2 ^ (c + 122) / 2 ^ 64 ≡ t .size * 2 ^ 120
-  posit-amount t =
-      let short : g * 2 ^ 32 % 2 ^ 64 ≡ g * 2 ^ 32 = mod-eq-of-lt (omega (arith, f .significand-below)) in
-      rw short
-      (undivided (g * 2 ^ 32) (c + 122) (t .size * 2 ^ 120)
-      (rw (pow-add 2 c 122) (moved-up (t .size) g (2 ^ c) (2 ^ 30) (2 ^ 32) (2 ^ 122) (2 ^ 120) (2 ^ 64) (t .scaled) refl)))
-
-  pub posit-brought : cond n notReal (total (withSign s (g * 2 ^ 32 % 2 ^ 64 * 2 ^ (c + 122) / 2 ^ 64))) ≡ ofPosit 2 31 p
+module _ (p c g : ℕ) (short : p < 2 ^ 32) (s : IsScaled p c g) where
+  pub posit-brought : cond (eqb p (nar 31)) notReal (total (withSign (isNegative 31 p) (g * 2 ^ (c + 154) / 2 ^ 64))) ≡ ofPosit 2 31 p
   unfolding ofPosit exact
-  posit-brought = go n (f .nar-is) (f .told)
+  posit-brought = go (ℕ-discrete p (nar 31))
     where
-      go : (n : Bool) → n ≡ eqb p (nar 31) → (n ≡ false → Factored p s c g)
-          → cond n notReal (total (withSign s (g * 2 ^ 32 % 2 ^ 64 * 2 ^ (c + 122) / 2 ^ 64))) ≡ ofPosit 2 31 p
-      go true e t = rw (← e)
-      go false e t = rw (← e) (ap total (ap (withSign s) (posit-amount (t refl)) ∙ sym (t refl .values 120)))
+      go : Dec (p ≡ nar 31) → cond (eqb p (nar 31)) notReal (total (withSign (isNegative 31 p) (g * 2 ^ (c + 154) / 2 ^ 64))) ≡ ofPosit 2 31 p
+      go (yes e) = rw (eq-eqb p (nar 31) e)
+      go (no n) =
+          let moved = sym (value-unit 2 31 p 240 64 short n (lit≤ tt)) ∙ value-scaled p c g short n s 154 in
+          rw (ne-eqb p (nar 31) n) (ap total (amount-is (value 2 31 240 p) (isNegative 31 p) g c 154 moved))
 
-module _ (p q : ℕ) (m n s t : Bool) (c d g h : ℕ) (e : IsFactor p m s c g) (f : IsFactor q n t d h) where
-  pub product-below : g * h < 2 ^ 62
-  product-below = product-lt 31 (e .significand-below) (f .significand-below)
+module _ (p q c d g h : ℕ) (short : p < 2 ^ 32) (short′ : q < 2 ^ 32) (s : IsScaled p c g) (t : IsScaled q d h) where
+  abbrev Brought : Type 0
+  Brought =
+      cond (eqb p (nar 31) || eqb q (nar 31)) notReal (total (withSign (xor (isNegative 31 p) (isNegative 31 q)) (g * h * 2 ^ (c + d + 4) / 2 ^ 64)))
+      ≡ ofProduct 2 31 p q
 
-  product-amount : (a : Factored p s c g) (b : Factored q t d h) → g * h * 2 ^ 2 % 2 ^ 64 * 2 ^ (c + d + 2) / 2 ^ 64 ≡ a .size * b .size
-  product-amount a b =
-      let short : g * h * 2 ^ 2 % 2 ^ 64 ≡ g * h * 2 ^ 2 = mod-eq-of-lt (omega (arith, product-below)) in
-      rw short
-      (undivided (g * h * 2 ^ 2) (c + d + 2) (a .size * b .size)
-      (rw (pow-add 2 (c + d) 2, pow-add 2 c d) (multiplied (a .size) (b .size) g h (2 ^ c) (2 ^ d) (2 ^ 30) (2 ^ 2) (2 ^ 2) (2 ^ 64) (a .scaled) (b .scaled) refl)))
-
-  product-value : (a : Factored p s c g) (b : Factored q t d h) → exactProduct 2 31 p q ≡ withSign (xor s t) (a .size * b .size)
-  unfolding exactProduct
-  product-value a b =
-      ap₂ _*ℤ_ (a .values 0 ∙ ap (withSign s) (mul-one (a .size))) (b .values 0 ∙ ap (withSign t) (mul-one (b .size))) ∙ product-signs s t (a .size) (b .size)
-
-  pub product-brought : cond (m || n) notReal (total (withSign (xor s t) (g * h * 2 ^ 2 % 2 ^ 64 * 2 ^ (c + d + 2) / 2 ^ 64))) ≡ ofProduct 2 31 p q
+  pub product-brought : Brought
   unfolding ofProduct
-  product-brought = go m n (e .nar-is) (f .nar-is) (e .told) (f .told)
+  product-brought = go (ℕ-discrete p (nar 31)) (ℕ-discrete q (nar 31))
     where
-      go : (m n : Bool) → m ≡ eqb p (nar 31) → n ≡ eqb q (nar 31) → (m ≡ false → Factored p s c g) → (n ≡ false → Factored q t d h)
-          → cond (m || n) notReal (total (withSign (xor s t) (g * h * 2 ^ 2 % 2 ^ 64 * 2 ^ (c + d + 2) / 2 ^ 64))) ≡ ofProduct 2 31 p q
-      go true n i j a b = rw (← i)
-      go false true i j a b = rw (← i, ← j)
-      go false false i j a b =
-          rw (← i, ← j) (ap total (ap (withSign (xor s t)) (product-amount (a refl) (b refl)) ∙ sym (product-value (a refl) (b refl))))
+      go : Dec (p ≡ nar 31) → Dec (q ≡ nar 31) → Brought
+      go (yes e) f = rw (eq-eqb p (nar 31) e)
+      go (no n) (yes f) = rw (ne-eqb p (nar 31) n, eq-eqb q (nar 31) f)
+      go (no n) (no m) =
+          rw (ne-eqb p (nar 31) n, ne-eqb q (nar 31) m)
+          (ap total
+          (amount-is (exactProduct 2 31 p q) (xor (isNegative 31 p) (isNegative 31 q)) (g * h) (c + d) 4
+          (product-scaled p q c d g h short short′ n m s t 4)))

@@ -12,7 +12,7 @@ use lib.ListN.{length, getD, set, length-set, replicate, length-replicate, getD-
 use lib.Seq.{getD-set-other}
 use Rattle.posit.specs.Digits.{number}
 use Rattle.posit.proofs.Arith.{pow-sum}
-use Rattle.quire_steps.specs.Operand.{turned}
+use Rattle.quire_words.proofs.Operand.{turned}
 
 pub pow-mul : (m n : ℕ) → 2 ^ (m * n) ≡ (2 ^ m) ^ n
 pow-mul m zero = rw (mul-zero, pow-zero 2, pow-zero (2 ^ m))

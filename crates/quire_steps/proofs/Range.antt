@@ -13,7 +13,7 @@ use lib.IntN.{ℤ, pos, negsuc, natAbs, negℤ, _+ℤ_, +ℤ-comm}
 use Rattle.posit.specs.Digits.{reading, complement}
 use Rattle.posit.proofs.Complement.{reading-low, reading-high}
 use Rattle.posit.proofs.Signs.{withSign, negated-sign, sum-same, sum-unlike}
-use Rattle.quire_steps.specs.Operand.{escaped}
+use Rattle.quire_words.proofs.Operand.{escaped}
 
 -- what a number is in two's complement, less than the double of H being what it is counted in
 abbrev pub wrap : ℕ → Bool → ℕ → ℕ

@@ -17,8 +17,7 @@ use Rattle.posit.specs.Digits.{number, digits, reading, complement}
 use Rattle.posit.specs.Accumulator.{State, notReal, total, kept, plus, negated, minus, bitsOf, words, fromWords}
 use Rattle.posit.proofs.Signs.{withSign, negated-sign}
 use Rattle.quire_words.specs.Words.{wide}
-use Rattle.quire_steps.specs.Operand.{turned, escaped}
-use Rattle.quire_steps.specs.Step.{moved}
+use Rattle.quire_words.proofs.Operand.{turned, escaped, moved}
 use Rattle.quire_steps.proofs.Range.{wrap, keptAs, size-of, negated-as, steps}
 use Rattle.quire_steps.proofs.Words.{read-nar, read-real}
 

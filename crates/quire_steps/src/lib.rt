@@ -7,8 +7,7 @@ ghost use Prim.Native.Nat.{_-_, _^_, _<_};
 ghost use lib.Dec.{leb};
 ghost use Rattle.posit.specs.Accumulator.{notReal, clear, isNotReal, isClear, ofPosit, ofProduct, plus, minus, negated, words, fromWords};
 ghost use Rattle.quire_words.specs.Words.{wide};
-ghost use Rattle.quire_steps.specs.Operand.{amount, brought, turned, escaped};
-ghost use Rattle.quire_steps.specs.Step.{moved};
+ghost use Rattle.quire_words.proofs.Operand.{amount, brought, turned, escaped, moved};
 use operands::Operand;
 use operands::posit_of;
 use operands::product_of;
@@ -97,7 +96,7 @@ fn fdp_one(q: [u64; 8], p: P32E2, added: bool) -> [u64; 8]
 // To take an operand is to add it with the other sign.
 fn step(q: [u64; 8], x: Operand, added: bool) -> [u64; 8]
     requires { ⌜ x .shift < 512 ⌝ }
-    ensures { λ r. ⌜ r ≡ words 512 (moved added (fromWords 512 q) (brought x)) ⌝ }
+    ensures { λ r. ⌜ r ≡ words 512 (moved added (fromWords 512 q) (brought (x .nar) (x .negative) (x .shift) (x .significand))) ⌝ }
 {
     if x.nar {
         return not_real();

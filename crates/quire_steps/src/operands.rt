@@ -2,11 +2,13 @@
 ghost use mathlib.Core.Path.{_≡_};
 ghost use Prim.Native.Nat.{_<_};
 ghost use Rattle.posit.specs.Accumulator.{ofPosit, ofProduct};
-ghost use Rattle.quire_steps.specs.Operand.{IsFactor, brought};
+ghost use Rattle.quire_words.proofs.Operand.{brought};
 use p32e2::P32E2;
-use p32e2::Unpacked;
+use unpacking::NAR;
+use unpacking::either_nar;
+use unpacking::scaled::scaled_of;
 
-// NaR, or significand·2^shift / 2^64 units, without remainder.
+// NaR, or significand·2^shift / 2^64 units, without remainder: a significand is only moved up. Zero has the significand 0.
 pub(crate) struct Operand {
     pub(crate) nar: bool,
     pub(crate) negative: bool,
@@ -14,67 +16,29 @@ pub(crate) struct Operand {
     pub(crate) significand: u64,
 }
 
-// NaR, or significand·2^scale units of 2^-150; 0 has the significand 0.
-struct Factor {
-    nar: bool,
-    negative: bool,
-    scale: u32,
-    significand: u32,
-}
-
-fn factor_of(p: P32E2) -> Factor
-    ensures { λ r. ⌜ IsFactor (p .0) (r .nar) (r .negative) (r .scale) (r .significand) ⌝ }
-{
-    match p.unpack() {
-        Unpacked::Zero => Factor {
-            nar: false,
-            negative: false,
-            scale: 0,
-            significand: 0,
-        },
-        Unpacked::NaR => Factor {
-            nar: true,
-            negative: false,
-            scale: 0,
-            significand: 0,
-        },
-        Unpacked::Real {
-            sign,
-            k,
-            e,
-            significand,
-        } => Factor {
-            nar: false,
-            negative: sign,
-            scale: 4 * ((k + 30) as u32) + e,
-            significand,
-        },
-    }
-}
-
-// One posit. Its factor has 90 binary digits fewer than the unit, and 32 of them go to the significand.
+// One posit: its significand counts units of 2^-150, and 240 + 64 is 154 more.
 pub(crate) fn posit_of(p: P32E2) -> Operand
-    ensures { λ r. ⌜ (r .shift < 512) × (brought r ≡ ofPosit 2 31 (p .0)) ⌝ }
+    ensures { λ r. ⌜ (r .shift < 512) × (brought (r .nar) (r .negative) (r .shift) (r .significand) ≡ ofPosit 2 31 (p .0)) ⌝ }
 {
-    let x = factor_of(p);
+    let x = scaled_of(p.0);
     Operand {
-        nar: x.nar,
-        negative: x.negative,
-        shift: x.scale + 122,
-        significand: (x.significand as u64) << 32,
+        nar: p.0 == NAR,
+        negative: p.0 > NAR,
+        shift: x.scale + 154,
+        significand: x.significand as u64,
     }
 }
 
-// The exact product of two. It has 60 binary digits more than the unit.
+// The exact product of two: the significands' product counts units of 2^-300, and 240 + 64 is 4 more.
 pub(crate) fn product_of(a: P32E2, b: P32E2) -> Operand
-    ensures { λ r. ⌜ (r .shift < 512) × (brought r ≡ ofProduct 2 31 (a .0) (b .0)) ⌝ }
+    ensures { λ r. ⌜ (r .shift < 512) × (brought (r .nar) (r .negative) (r .shift) (r .significand) ≡ ofProduct 2 31 (a .0) (b .0)) ⌝ }
 {
-    let x = factor_of(a);
-    let y = factor_of(b);
+    let x = scaled_of(a.0);
+    let y = scaled_of(b.0);
     Operand {
-        nar: x.nar | y.nar,
-        negative: x.negative != y.negative,
-        shift: x.scale + y.scale + 2,
-        significand: ((x.significand as u64) * (y.significand as u64)) << 2,
+        nar: either_nar(a.0, b.0),
+        negative: (a.0 > NAR) != (b.0 > NAR),
+        shift: x.scale + y.scale + 4,
+        significand: (x.significand as u64) * (y.significand as u64),
     }
 }

@@ -3,3 +3,4 @@ pub mod Places
 pub mod Carry
 pub mod Seen
 pub mod First
+pub mod Operand

@@ -19,7 +19,7 @@ pub fn sqrt(p: u32) -> u32
     let a = scaled_of(p);
     let n = (a.significand as u64) << (32 + a.scale % 2);
     let r = root_of(n);
-    pack(false, a.scale / 2 + 768, r << 30, r * r < n)
+    pack(false, a.scale / 2 + 964, r << 30, r * r < n)
 }
 
 // The whole root of n. It does not matter to the result what the guess is, since it is corrected step by step; from 2^62 on one step is enough.

@@ -1,5 +1,5 @@
 -- What each case of the enum `Unpacked` means (1.9): the case of `Parts` of the same name.
-use Rattle.posit.specs.Pattern.{Parts, isZero, isNaR, isReal}
+use Rattle.unpacking.specs.Parts.{Parts, isZero, isNaR, isReal}
 use Rattle.unpacking.specs.declared.Unpacked.{Unpacked}
 use Rattle.unpacking.specs.declared.Unpacked.the-variants.{Zero, NaR, Real}
 

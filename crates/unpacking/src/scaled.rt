@@ -1,12 +1,14 @@
 // A posit's size as a significand at a scale: what the arithmetic works on.
 ghost use mathlib.Core.Path.{_≡_};
-ghost use Rattle.posit.specs.Pattern.{Positive, first, run, regime, raised};
-ghost use Rattle.unpacking.specs.Scaled.{Scales, IsScaled};
+ghost use Prim.Native.Nat.{_+_};
+ghost use Rattle.posit.specs.Pattern.{Positive, first, run, regime, exponent, raised, least};
+ghost use Rattle.posit.proofs.Word.{behind};
+ghost use Rattle.unpacking.specs.Parts.{significand};
+ghost use Rattle.unpacking.specs.Scaled.{IsScaled};
 use super::NAR;
 use super::sign_off;
-use super::split;
 
-// significand·2^scale, in units of 2^-542; the leading one of the significand is at bit 30.
+// significand·2^scale, in units of 2^-150; the leading one of the significand is at bit 30.
 pub struct Scaled {
     pub scale: u32,
     pub significand: u32,
@@ -31,10 +33,10 @@ pub fn scaled_of(p: u32) -> Scaled
     to_scaled(sign_off(p))
 }
 
-// The scale is 512 + 4k + e.
-fn to_scaled(b: u32) -> Scaled
+// A pattern b above 0. The scale is 120 + 4k + e.
+pub(crate) fn to_scaled(b: u32) -> Scaled
     requires { ⌜ Positive 31 b ⌝ }
-    ensures { λ r. ⌜ Scales b (r .scale) (r .significand) ⌝ }
+    ensures { λ r. ⌜ (r .scale ≡ raised 2 (least 2 31) (regime 31 b) + exponent 2 31 b) × (r .significand ≡ significand 2 31 b) ⌝ }
 {
     let s = split(b);
     Scaled {
@@ -43,14 +45,42 @@ fn to_scaled(b: u32) -> Scaled
     }
 }
 
-// 512 + 4k, by the length m of b's run.
+// 120 + 4k, by the length m of b's run.
 fn base_of(b: u32, m: u32) -> u32
     requires { ⌜ Positive 31 b × (m ≡ run (first 31 b) 31 b) ⌝ }
-    ensures { λ r. ⌜ r ≡ raised 2 512 (regime 31 b) ⌝ }
+    ensures { λ r. ⌜ r ≡ raised 2 (least 2 31) (regime 31 b) ⌝ }
 {
     if b < 0x4000_0000 {
-        512 - 4 * m
+        120 - 4 * m
     } else {
-        508 + 4 * m
+        116 + 4 * m
     }
+}
+
+// The length of a run, and what follows the run and the digit that ends it, at the top of a word; digits that are missing are 0.
+struct Digits {
+    run: u32,
+    behind: u32,
+}
+
+// The sign, the run and its end are shifted out. A run of all 31 digits has no end, and leaves 0.
+fn split(b: u32) -> Digits
+    requires { ⌜ Positive 31 b ⌝ }
+    ensures { λ r. ⌜ (r .run ≡ run (first 31 b) 31 b) × (r .behind ≡ behind 2 31 b) ⌝ }
+{
+    let m = run_of(b);
+    Digits {
+        run: m,
+        behind: (b << m) << 2,
+    }
+}
+
+// How many digits of b, from the top one below the sign, are equal to that one.
+fn run_of(b: u32) -> u32
+    requires { ⌜ Positive 31 b ⌝ }
+    ensures { λ m. ⌜ m ≡ run (first 31 b) 31 b ⌝ }
+{
+    let x = b << 1;
+    let y = if b < 0x4000_0000 { x } else { !x };
+    u32::leading_zeros(y)
 }

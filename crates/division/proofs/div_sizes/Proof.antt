@@ -11,7 +11,7 @@ use Rattle.posit.specs.Pattern.{unsigned, size}
 use Rattle.posit.specs.Exact.{whole, ratio}
 use Rattle.posit.specs.Rounding.{round, signed}
 use Rattle.rounding.specs.Packed.{packedSize}
-use Rattle.unpacking.specs.Scaled.{Scales}
+use Rattle.unpacking.specs.Scaled.{scaledUnit, Scales}
 use Rattle.division.proofs.Divided.{ratio-rounds}
 use Rattle.division.proofs.div_sizes.Statement.{statement}
 use Rattle.division.proofs.div_sizes.Tie as tie
@@ -51,7 +51,7 @@ module _ {a b c e g d : ℕ} (x : Scales a c g) (y : Scales b e d) where
   high-small = omega (arith, quotient-high)
 
   rounds : round 2 31 1086 (whole (packedSize (1023 + high + c - e) (dividend / d * 2 ^ (30 - high) % 2 ^ 64) (ltb 0 (dividend % d))))
-      ≡ round 2 31 1086 (ratio (size 2 31 542 a * 2 ^ 1086) (size 2 31 542 b))
+      ≡ round 2 31 1086 (ratio (size 2 31 scaledUnit a * 2 ^ 1086) (size 2 31 scaledUnit b))
   rounds =
       let scale = 1023 + high + c - e in
       let place = leading-place (dividend / d) quotient-low quotient-high in

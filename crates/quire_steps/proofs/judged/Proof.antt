@@ -10,7 +10,7 @@ use mir.Val.{boolByte}
 use Rattle.posit.specs.Digits.{number, digits}
 use Rattle.posit.specs.Accumulator.{bitsOf, words}
 use Rattle.quire_words.specs.Words.{wide}
-use Rattle.quire_steps.specs.Operand.{escaped}
+use Rattle.quire_words.proofs.Operand.{escaped}
 use Rattle.quire_words.proofs.Places.{digit-le}
 use Rattle.quire_steps.proofs.judged.Statement.{statement}
 use Rattle.quire_steps.proofs.judged.Tie as tie

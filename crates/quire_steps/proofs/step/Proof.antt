@@ -10,8 +10,7 @@ use mir.Val.{boolByte}
 use Rattle.posit.specs.Accumulator.{notReal, total, bitsOf, words, fromWords}
 use Rattle.posit.proofs.Signs.{withSign}
 use Rattle.quire_words.specs.Words.{wide}
-use Rattle.quire_steps.specs.Operand.{amount, brought}
-use Rattle.quire_steps.specs.Step.{moved}
+use Rattle.quire_words.proofs.Operand.{amount, brought, moved}
 use Rattle.quire_words.proofs.Places.{words-typed, wide-typed}
 use Rattle.quire_steps.proofs.Words.{read-nar, spelt}
 use Rattle.quire_steps.proofs.Stepped.{nar-moves, moved-by-nar, directed, amount-below, stepped-bits}
@@ -24,7 +23,7 @@ not-real-requires c κs = search needs
 returns : tie.Need-returns
 returns c =
     let a = c .before .before .args in
-    let nar : brought (a .x) ≡ notReal = rw (c .before .if1 .taken) in
+    let nar : brought (a .x .nar) (a .x .negative) (a .x .shift) (a .x .significand) ≡ notReal = rw (c .before .if1 .taken) in
     c .not-real .ensures ∙ ap (words 512) (sym (ap (moved (a .added) (fromWords 512 (a .q))) nar ∙ moved-by-nar (a .added) (fromWords 512 (a .q))))
 
 is-alone-requires : tie.Need-is-alone-requires
@@ -38,7 +37,7 @@ returns-2 c =
     let at = c .before .before in
     let a = at .before .before .args in
     let nar = read-nar (a .q) (eqb-true (wide (a .q)) (2 ^ 511) (sym (at .is-alone .ensures) ∙ c .before .if2 .taken)) in
-    c .not-real2 .ensures ∙ ap (words 512) (sym (ap (λ q. moved (a .added) q (brought (a .x))) nar ∙ nar-moves (a .added) (brought (a .x))))
+    c .not-real2 .ensures ∙ ap (words 512) (sym (ap (λ q. moved (a .added) q (brought (a .x .nar) (a .x .negative) (a .x .shift) (a .x .significand))) nar ∙ nar-moves (a .added) (brought (a .x .nar) (a .x .negative) (a .x .shift) (a .x .significand))))
 
 placed-requires : tie.Need-placed-requires
 placed-requires c κs = search needs
@@ -59,7 +58,7 @@ returns-3 c =
     let m = amount (x .shift) (x .significand) in
     let short = wide-typed q (k .good .0) in
     let r = words-typed 8 (c .judged .result) (c .judged .ok) in
-    let real : brought x ≡ total (withSign (x .negative) m) = rw (tested .before .before .if1 .left) in
+    let real : brought (x .nar) (x .negative) (x .shift) (x .significand) ≡ total (withSign (x .negative) m) = rw (tested .before .before .if1 .left) in
     let ne = eqb-false (wide q) (2 ^ 511) (sym (tested .before .is-alone .ensures) ∙ tested .if2 .left) in
     let sum = c .before .add .ensures ∙ ap (λ (n : ℕ). (wide q + n + boolByte s) % 2 ^ 512) (c .before .before .placed .ensures) in
     spelt _ (c .judged .result) (r .0) (r .1)

@@ -13,11 +13,11 @@ use Rattle.posit.specs.Exact.{whole, root}
 use Rattle.posit.specs.Rounding.{round, signed}
 use Rattle.posit.specs.Operation.{squareRoot}
 use Rattle.posit.proofs.Compare.{told-lt-back, finer, finer-sound, finer-at-least, finer-under, finer-above}
-use Rattle.posit.proofs.Parts.{unsigned-below}
+use Rattle.posit.proofs.Unsigned.{unsigned-below}
 use Rattle.posit.proofs.Packing.{Spans}
 use Rattle.posit.proofs.Root.{same-powers, root-of-zero, root-of-none, root-in-units}
 use Rattle.rounding.specs.Packed.{asDigit, packedSize}
-use Rattle.unpacking.specs.Scaled.{Scales}
+use Rattle.unpacking.specs.Scaled.{scaledUnit, Scales}
 use Rattle.rounding.proofs.Packed.{stands-for}
 use Rattle.square_root.proofs.sqrt.Statement.{statement}
 use Rattle.square_root.proofs.sqrt.Tie as tie
@@ -43,7 +43,7 @@ module _ (n r : ℕ) (least : 2 ^ 62 ≤ n) (fits : n < 2 ^ 64) (low : r * r ≤
       (rw (here, power) (finer-above (c + 31) (root n) r))
       ∙ ap (λ (F : ℕ). round 2 31 1086 (whole ((2 * (2 ^ 61 + F) + asDigit (ltb (r * r) n)) * 2 ^ c))) digits
 
--- b is g * 2 ^ c units of 2 ^ - 542: g is shifted by 32, or 33 where c is odd
+-- b is g * 2 ^ c units of 2 ^ - scaledUnit: g is shifted by 32, or 33 where c is odd
 module _ (b c g : ℕ) (k : Positive 31 b) (s : Scales b c g) where
   abbrev number : ℕ
   number = g * 2 ^ (32 + c % 2)
@@ -58,18 +58,18 @@ module _ (b c g : ℕ) (k : Positive 31 b) (s : Scales b c g) where
   number-fits = lt-of-lt-of-le (shl-lt 31 (32 + c % 2) (s .in-scale .below)) (pow-mono {i = 31 + (32 + c % 2)} {j = 64} (omega arith))
 
   -- the root that is asked for, in units of 2 ^ - 1086
-  root-is : squareRoot 2 31 b ≡ round 2 31 1086 (finer (c / 2 + 768 + 31) (root number))
+  root-is : squareRoot 2 31 b ≡ round 2 31 1086 (finer (c / 2 + 964 + 31) (root number))
   root-is =
-      root-in-units 2 31 b k (lit≤ tt) 846 302 1630 refl
-      ∙ ap (λ (z : ℕ). round 2 31 1086 (root (z * 2 ^ 1630))) (s .size-is)
-      ∙ ap (λ (x : ℕ). round 2 31 1086 (root x)) (sym (same-powers g (32 + c % 2) (c / 2 + 768 + 31) c 1630 (omega arith)))
+      root-in-units 2 31 b k (lit≤ tt) 846 scaledUnit 2022 (lit≤ tt) refl
+      ∙ ap (λ (z : ℕ). round 2 31 1086 (root (z * 2 ^ 2022))) (s .size-is)
+      ∙ ap (λ (x : ℕ). round 2 31 1086 (root x)) (sym (same-powers g (32 + c % 2) (c / 2 + 964 + 31) c 2022 (omega arith)))
 
   root-rounded : (r q : ℕ) → r * r ≤ number % 2 ^ 64 → number % 2 ^ 64 < suc r * suc r
-      → q ≡ signed 31 false (round 2 31 1086 (whole (packedSize (c / 2 + 768) (r * 2 ^ 30 % 2 ^ 64) (ltb (r * r) (number % 2 ^ 64)))))
+      → q ≡ signed 31 false (round 2 31 1086 (whole (packedSize (c / 2 + 964) (r * 2 ^ 30 % 2 ^ 64) (ltb (r * r) (number % 2 ^ 64)))))
       → q ≡ squareRoot 2 31 b
   unfolding signed
   root-rounded r q low high packed =
-      (rw shifted at packed) ∙ sym (root-packs number r number-least number-fits (rw shifted at low) (rw shifted at high) (c / 2 + 768)) ∙ sym root-is
+      (rw shifted at packed) ∙ sym (root-packs number r number-least number-fits (rw shifted at low) (rw shifted at high) (c / 2 + 964)) ∙ sym root-is
 
 returns : tie.Need-returns
 returns c = sym (root-of-zero 2 31 (c .before .args .p) (omega arith))

@@ -1,16 +1,17 @@
--- `real` meets its contract: of what follows the run a quotient and a remainder are the exponent and the significand, and the regime fits its type.
+-- `real` meets its contract: the regime and the exponent are a quotient and a remainder of the scale, and the regime fits its type.
 use mathlib.Core.Path.{_≡_, ap, _∙_}
 use mathlib.Core.Bool.{Bool}
 use Prim.Native.Nat.{ℕ, _+_, _/_, _%_, _^_, _<_}
 use native.Mathlib.Omega.{arith}
 use borrow.Author.Needs.{needs}
-use lib.IntN.{ℤ, pos, negsuc, natAbs}
+use lib.IntN.{ℤ, pos, negsuc, natAbs, _-ℤ_}
 use mir.Syntax.{w32}
-use mir.Val.{SFits}
-use mir.Facts.{toZ-ofZ}
-use Rattle.posit.specs.Pattern.{isReal}
-use Rattle.posit.proofs.Word.{behind-exponent, behind-significand}
-use Rattle.posit.proofs.Parts.{regime-small}
+use mir.Val.{SFits, toZ}
+use mir.Facts.{toZ-pos, toZ-ofZ}
+use Rattle.posit.specs.Pattern.{Positive, regime, exponent, raised, least}
+use Rattle.posit.proofs.Unsigned.{regime-small, exponent-lt}
+use Rattle.unpacking.specs.Parts.{isReal}
+use Rattle.unpacking.proofs.Valued.{raised-high, regime-back, exponent-back}
 use Rattle.unpacking.proofs.real.Statement.{statement}
 use Rattle.unpacking.proofs.real.Tie as tie
 
@@ -21,26 +22,36 @@ small-fits (negsuc k) h = record { sfits = omega arith }
 same-parts : {s : Bool} {k k′ : ℤ} {e e′ g g′ : ℕ} → k ≡ k′ → e ≡ e′ → g ≡ g′ → isReal s k e g ≡ isReal s k′ e′ g′
 same-parts p q r = cc
 
-split-requires : tie.Need-split-requires
-split-requires c κs = search needs
+module _ (b c : ℕ) (k : Positive 31 b) (is : c ≡ raised 2 (least 2 31) (regime 31 b) + exponent 2 31 b) where
+  quotient-short : c / 4 < 2 ^ 31
+  quotient-short = omega (arith, raised-high (regime 31 b) (regime-small 31 b k), exponent-lt 2 31 b)
 
-regime-of-requires : tie.Need-regime-of-requires
-regime-of-requires c κs = search needs
+  regime-is : toZ w32 (c / 4) -ℤ pos 30 ≡ regime 31 b
+  regime-is = rw (toZ-pos w32 quotient-short, is) (regime-back (regime 31 b) (exponent 2 31 b) (regime-small 31 b k) (exponent-lt 2 31 b))
 
-add-t7 : tie.Need-add-t7
-add-t7 c = search needs
+  regime-fits : SFits w32 (toZ w32 (c / 4) -ℤ pos 30)
+  regime-fits = rw regime-is (small-fits (regime 31 b) (regime-small 31 b k))
+
+  exponent-is : c % 4 ≡ exponent 2 31 b
+  exponent-is = rw is (exponent-back (regime 31 b) (exponent 2 31 b) (regime-small 31 b k) (exponent-lt 2 31 b))
+
+to-scaled-requires : tie.Need-to-scaled-requires
+to-scaled-requires c κs = search needs
+
+cast-t5 : tie.Need-cast-t5
+cast-t5 c = let k = c .before in record { sfits = quotient-short _ _ (k .before .pre) (k .to-scaled .ensures .0) }
+
+sub-t6 : tie.Need-sub-t6
+sub-t6 c = let k = c .before in regime-fits _ _ (k .before .pre) (k .to-scaled .ensures .0)
 
 returns : tie.Need-returns
 returns c =
-    let at = c .before .before in
-    let b = at .before .before .args .b in
-    let k = at .regime-of .result in
-    let fits : SFits w32 k = small-fits k (rw (at .regime-of .ensures) (regime-small 31 b (at .before .before .pre))) in
-    let t = at .before .split .ensures .1 in
+    let k = c .before .before in
+    let scale = k .to-scaled .ensures .0 in
     same-parts
-    (toZ-ofZ fits ∙ at .regime-of .ensures)
-    (ap (λ (x : ℕ). x / 2 ^ 30) t ∙ behind-exponent 2 31 b)
-    (ap (λ (x : ℕ). 2 ^ 30 + x % 2 ^ 30) t ∙ behind-significand 2 31 b)
+    (toZ-ofZ (regime-fits _ _ (k .before .pre) scale) ∙ regime-is _ _ (k .before .pre) scale)
+    (exponent-is _ _ (k .before .pre) scale)
+    (k .to-scaled .ensures .1)
 
 pub real-spec : {M : Type 1} → statement M
-real-spec = tie.close (tie.spec split-requires regime-of-requires add-t7 returns)
+real-spec = tie.close (tie.spec to-scaled-requires cast-t5 sub-t6 returns)

@@ -3,7 +3,7 @@ use mathlib.Core.Path.{sym}
 use native.Mathlib.Omega.{arith}
 use borrow.Author.Needs.{needs}
 use Rattle.posit.specs.Pattern.{opposite}
-use Rattle.posit.proofs.Parts.{unsigned-above, unsigned-below}
+use Rattle.posit.proofs.Unsigned.{unsigned-above, unsigned-below}
 use Rattle.unpacking.proofs.sign_off.Statement.{statement}
 use Rattle.unpacking.proofs.sign_off.Tie as tie
 

@@ -2,7 +2,8 @@
 use mathlib.Core.Path.{sym, _∙_}
 use native.Mathlib.Omega.{arith}
 use borrow.Author.Needs.{needs}
-use Rattle.posit.proofs.Parts.{parts-zero, parts-nar, parts-real, unsigned-positive}
+use Rattle.posit.proofs.Unsigned.{unsigned-positive}
+use Rattle.unpacking.proofs.Parts.{parts-zero, parts-nar, parts-real}
 use Rattle.unpacking.proofs.unpack.Statement.{statement}
 use Rattle.unpacking.proofs.unpack.Tie as tie
 

@@ -1,9 +1,9 @@
 -- `multiplied` meets its contract: the product is moved up until its leading one is at bit 62.
-use mathlib.Core.Path.{_≡_, refl, sym, ap, subst, _∙_}
+use mathlib.Core.Path.{_≡_, refl, sym, subst}
 use Prim.Native.Nat.{ℕ, _+_, _*_, _%_, _^_, _<_}
-use native.Mathlib.Nat.{mod-eq-of-lt, mul-assoc}
+use native.Mathlib.Nat.{mod-eq-of-lt}
 use native.Mathlib.Omega.{arith}
-use Rattle.posit.proofs.Arith.{pow-sum}
+use Rattle.posit.proofs.Arith.{same-power}
 use Rattle.exact_terms.specs.Terms.{Normal, Multiplied}
 use Rattle.exact_terms.proofs.Exactly.{product-bounds}
 use borrow.Author.Needs.{needs}
@@ -11,10 +11,8 @@ use Rattle.exact_terms.proofs.terms.multiplied.Statement.{statement}
 use Rattle.exact_terms.proofs.terms.multiplied.Tie as tie
 
 -- moved up by l digits, with the scale lowered by as many
-up : (n d l c : ℕ) → l + c ≡ d + 2 → n * 2 ^ l < 2 ^ 64 → Normal c (n * 2 ^ l) → Multiplied n d c (n * 2 ^ l % 2 ^ 64)
-up n d l c e h k =
-    subst (Multiplied n d c) (sym (mod-eq-of-lt h))
-    (record { same = mul-assoc n (2 ^ l) (2 ^ c) ∙ ap (λ (x : ℕ). n * x) (pow-sum l c (d + 2) e); normal = k })
+up : (n d l c : ℕ) → l + c ≡ d + 786 → n * 2 ^ l < 2 ^ 64 → Normal c (n * 2 ^ l) → Multiplied n d c (n * 2 ^ l % 2 ^ 64)
+up n d l c e h k = subst (Multiplied n d c) (sym (mod-eq-of-lt h)) (record { same = same-power n l c d 786 e; normal = k })
 
 cast-n : tie.Need-cast-n
 cast-n c = search needs
@@ -30,6 +28,9 @@ mul-n c =
 add-scale : tie.Need-add-scale
 add-scale c = search needs
 
+add-scale-2 : tie.Need-add-scale-2
+add-scale-2 c = search needs
+
 add-next : tie.Need-add-next
 add-next c = search needs
 
@@ -39,7 +40,7 @@ returns c =
     let x = a .args .x in
     let y = a .args .y in
     let b = product-bounds (x .scale) (y .scale) (x .significand) (y .significand) (a .pre .0) (a .pre .1) in
-    (refl, up (x .significand * y .significand) (x .scale + y .scale) 2 (x .scale + y .scale) (omega arith) (omega arith) (omega arith))
+    (refl, up (x .significand * y .significand) (x .scale + y .scale) 2 (x .scale + y .scale + 784) (omega arith) (omega arith) (omega arith))
 
 returns-2 : tie.Need-returns-2
 returns-2 c =
@@ -47,7 +48,7 @@ returns-2 c =
     let x = a .args .x in
     let y = a .args .y in
     let b = product-bounds (x .scale) (y .scale) (x .significand) (y .significand) (a .pre .0) (a .pre .1) in
-    (refl, up (x .significand * y .significand) (x .scale + y .scale) 1 (x .scale + y .scale + 1) (omega arith) (omega arith) (omega arith))
+    (refl, up (x .significand * y .significand) (x .scale + y .scale) 1 (x .scale + y .scale + 784 + 1) (omega arith) (omega arith) (omega arith))
 
 pub multiplied-spec : {M : Type 1} → statement M
-multiplied-spec = tie.close (tie.spec cast-n cast-n-2 mul-n add-scale add-next returns returns-2)
+multiplied-spec = tie.close (tie.spec cast-n cast-n-2 mul-n add-scale add-scale-2 add-next returns returns-2)

@@ -20,7 +20,7 @@ returns c =
     let t = c .multiplied .result in
     subst (λ (s : Bool). IsTerm (exactProduct 2 31 (a .a) (a .b)) s (t .scale) (t .significand))
     (sym (c .multiplied .ensures .0 ∙ differ-is (isNegative 31 (a .a)) (isNegative 31 (a .b))))
-    (product-term (a .a) (a .b) (a .x .scale) (a .y .scale) (a .x .significand) (a .y .significand) (k .0) (k .1) (omega arith) (omega arith) (k .2 .of-real (k .0)) (k .3 .of-real (k .1)) (t .scale) (t .significand) (c .multiplied .ensures .1))
+    (product-term (a .a) (a .b) (a .x .scale) (a .y .scale) (a .x .significand) (a .y .significand) (omega arith) (omega arith) (k .0) (k .1) (k .2) (k .3) (t .scale) (t .significand) (c .multiplied .ensures .1))
 
 pub product-of-spec : {M : Type 1} → statement M
 product-of-spec = tie.close (tie.spec multiplied-requires returns)

@@ -27,8 +27,8 @@ returns c =
     let s = k .scaled-of .result in
     let is = k .scaled-of .ensures .of-real (a .pre) in
     let whole : s .significand * 2 ^ 32 % 2 ^ 64 ≡ s .significand * 2 ^ 32 = mod-eq-of-lt (omega arith) in
-    subst (IsTerm (exact 2 31 (a .args .p)) (isNegative 31 (a .args .p)) (s .scale + 512)) (sym whole)
-    (posit-term (a .args .p) (s .scale) (s .significand) (a .pre) (omega arith) is)
+    subst (IsTerm (exact 2 31 (a .args .p)) (isNegative 31 (a .args .p)) (s .scale + 904)) (sym whole)
+    (posit-term (a .args .p) (s .scale) (s .significand) (omega arith) (a .pre) (k .scaled-of .ensures))
 
 pub term-of-spec : {M : Type 1} → statement M
 term-of-spec = tie.close (tie.spec scaled-of-requires add-t4 cast-t5 returns)

@@ -1,24 +1,26 @@
 -- `posit_of` meets its contract, by `posit-brought`.
 use native.Mathlib.Omega.{arith}
 use borrow.Author.Needs.{needs}
+use Rattle.unpacking.proofs.Valued.{scaled-below}
 use Rattle.quire_steps.proofs.Brought.{posit-brought}
 use Rattle.quire_steps.proofs.operands.posit_of.Statement.{statement}
 use Rattle.quire_steps.proofs.operands.posit_of.Tie as tie
 
-factor-of-requires : tie.Need-factor-of-requires
-factor-of-requires c κs = search needs
+scaled-of-requires : tie.Need-scaled-of-requires
+scaled-of-requires c κs = search needs
 
-add-t3 : tie.Need-add-t3
-add-t3 c = search needs
+add-t5 : tie.Need-add-t5
+add-t5 c = let x = c .before .before .before .scaled-of in record { fits = omega (arith, scaled-below _ (x .result .scale) (x .result .significand) (x .ensures) .0) }
 
-cast-t4 : tie.Need-cast-t4
-cast-t4 c = search needs
+cast-t6 : tie.Need-cast-t6
+cast-t6 c = search needs
 
 returns : tie.Need-returns
 returns c =
-    let k = c .before .before in
-    let x = k .factor-of .result in
-    (omega (arith, k .factor-of .ensures .scale-below), posit-brought (k .before .args .p .0) (x .nar) (x .negative) (x .scale) (x .significand) (k .factor-of .ensures))
+    let k = c .before .before .before .before in
+    let p = k .before .args .p .0 in
+    let x = k .scaled-of .result in
+    (omega (arith, scaled-below p (x .scale) (x .significand) (k .scaled-of .ensures) .0), posit-brought p (x .scale) (x .significand) (omega arith) (k .scaled-of .ensures))
 
 pub posit-of-spec : {M : Type 1} → statement M
-posit-of-spec = tie.close (tie.spec factor-of-requires add-t3 cast-t4 returns)
+posit-of-spec = tie.close (tie.spec scaled-of-requires add-t5 cast-t6 returns)

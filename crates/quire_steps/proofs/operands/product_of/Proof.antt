@@ -1,54 +1,66 @@
 -- `product_of` meets its contract, by `product-brought`: below 0 where just one of the two is.
+use Prim.Native.Nat.{_+_, _*_, _^_, _≤_, _<_}
 use native.Mathlib.Omega.{arith}
 use borrow.Author.Needs.{needs}
-use Rattle.rounding.proofs.Machine.{differ-is}
-use Rattle.quire_steps.proofs.Brought.{product-below, product-brought}
+use Rattle.rounding.proofs.Machine.{product-lt, differ-is}
+use Rattle.unpacking.proofs.Valued.{scaled-below}
+use Rattle.quire_steps.proofs.Brought.{product-brought}
 use Rattle.quire_steps.proofs.operands.product_of.Statement.{statement}
 use Rattle.quire_steps.proofs.operands.product_of.Tie as tie
 
-factor-of-requires : tie.Need-factor-of-requires
-factor-of-requires c κs = search needs
+-- what the two patterns are taken apart into
+scales-below : (k : tie.After-scaled-of2) → k .before .scaled-of .result .scale + k .scaled-of2 .result .scale ≤ 480
+scales-below k = omega (arith, scaled-below _ _ _ (k .before .scaled-of .ensures) .0, scaled-below _ _ _ (k .scaled-of2 .ensures) .0)
 
-factor-of-requires-2 : tie.Need-factor-of-requires-2
-factor-of-requires-2 c κs = search needs
+product-below : (k : tie.After-scaled-of2) → k .before .scaled-of .result .significand * k .scaled-of2 .result .significand < 2 ^ 62
+product-below k = product-lt 31 (scaled-below _ _ _ (k .before .scaled-of .ensures) .1) (scaled-below _ _ _ (k .scaled-of2 .ensures) .1)
 
-add-t7 : tie.Need-add-t7
-add-t7 c = search needs
+scaled-of-requires : tie.Need-scaled-of-requires
+scaled-of-requires c κs = search needs
 
-add-t8 : tie.Need-add-t8
-add-t8 c = search needs
+scaled-of-requires-2 : tie.Need-scaled-of-requires-2
+scaled-of-requires-2 c κs = search needs
 
-cast-t9 : tie.Need-cast-t9
-cast-t9 c = search needs
+either-nar-requires : tie.Need-either-nar-requires
+either-nar-requires c κs = search needs
 
-cast-t10 : tie.Need-cast-t10
-cast-t10 c = search needs
+add-t9 : tie.Need-add-t9
+add-t9 c = record { fits = omega (arith, scales-below (c .before .before .before .before .before)) }
 
-mul-t11 : tie.Need-mul-t11
-mul-t11 c =
-    let k = c .before .before .before .before .before .before .before .before in
-    let x = k .before .factor-of .result in
-    let y = k .factor-of2 .result in
-    let short = product-below (k .before .before .args .a .0) (k .before .before .args .b .0) (x .nar) (y .nar) (x .negative) (y .negative) (x .scale) (y .scale) (x .significand) (y .significand) (k .before .factor-of .ensures) (k .factor-of2 .ensures) in
-    record { fits = omega (arith, short) }
+add-t10 : tie.Need-add-t10
+add-t10 c = record { fits = omega (arith, scales-below (c .before .before .before .before .before)) }
+
+cast-t11 : tie.Need-cast-t11
+cast-t11 c = search needs
+
+cast-t12 : tie.Need-cast-t12
+cast-t12 c = search needs
+
+mul-t13 : tie.Need-mul-t13
+mul-t13 c = record { fits = omega (arith, product-below (c .before .before .before .before .before .before .before)) }
 
 returns : tie.Need-returns
 returns c =
-    let k = c .before .before .before .before .before .before .before .before in
-    let x = k .before .factor-of .result in
-    let y = k .factor-of2 .result in
-    let together = product-brought (k .before .before .args .a .0) (k .before .before .args .b .0) (x .nar) (y .nar) (x .negative) (y .negative) (x .scale) (y .scale) (x .significand) (y .significand) (k .before .factor-of .ensures) (k .factor-of2 .ensures) in
-    (omega (arith, k .before .factor-of .ensures .scale-below, k .factor-of2 .ensures .scale-below), rw (differ-is (x .negative) (y .negative)) together)
+    let k = c .before .before .before .before .before .before .before in
+    let a = k .before .before .args .a .0 in
+    let b = k .before .before .args .b .0 in
+    let x = k .before .scaled-of .result in
+    let y = k .scaled-of2 .result in (
+      omega (arith, scales-below k),
+      rw (c .before .before .before .before .before .before .either-nar .ensures, differ-is _ _)
+          (product-brought a b (x .scale) (y .scale) (x .significand) (y .significand) (omega arith) (omega arith) (k .before .scaled-of .ensures) (k .scaled-of2 .ensures)),
+    )
 
 pub product-of-spec : {M : Type 1} → statement M
 product-of-spec =
     tie.close
     (tie.spec
-    factor-of-requires
-    factor-of-requires-2
-    add-t7
-    add-t8
-    cast-t9
-    cast-t10
-    mul-t11
+    scaled-of-requires
+    scaled-of-requires-2
+    either-nar-requires
+    add-t9
+    add-t10
+    cast-t11
+    cast-t12
+    mul-t13
     returns)

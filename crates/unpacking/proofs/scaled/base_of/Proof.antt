@@ -1,49 +1,63 @@
--- `base_of` meets its contract: the first digit tells of what the run is made, and its length the regime.
-use mathlib.Core.Path.{_≡_, refl, ap, _∙_}
+-- `base_of` meets its contract: the first digit tells of what the run is made, and its length the regime. Not all 31 digits are zeros, since b is not 0.
+use mathlib.Core.Path.{_≡_, refl, sym, ap, _∙_}
 use mathlib.Core.Bool.{true, false}
-use Prim.Native.Nat.{ℕ, zero, suc, _+_, _-_, _*_, _<_}
+use Prim.Native.Nat.{ℕ, zero, suc, _+_, _-_, _*_, _^_, _≤_, _<_}
 use native.Mathlib.Omega.{arith}
-use lib.IntN.{pos, negℤ}
-use Rattle.posit.specs.Pattern.{first, run, regime, regimeOf, raised}
+use lib.IntN.{pos, negℤ, natAbs}
+use Rattle.posit.specs.Pattern.{Positive, first, run, regime, regimeOf, raised, least}
 use Rattle.posit.proofs.Word.{run-le, run-positive, first-is}
+use Rattle.posit.proofs.Unsigned.{regime-small}
 use Rattle.unpacking.proofs.scaled.base_of.Statement.{statement}
 use Rattle.unpacking.proofs.scaled.base_of.Tie as tie
 
-module _ (b m : ℕ) (is : m ≡ run (first 31 b) 31 b) where
-  short : (0 < m) × (m < 32)
-  short = omega (arith, run-le (first 31 b) 31 b, run-positive 30 b)
-
-  regime-is : (d : ℕ) → first 31 b ≡ d → raised 2 512 (regimeOf d m) ≡ raised 2 512 (regime 31 b)
-  unfolding regime
-  regime-is d f = rw (← f) (ap (λ (n : ℕ). raised 2 512 (regimeOf (first 31 b) n)) is)
-
-zeros-base : (m : ℕ) → 512 - 4 * m ≡ raised 2 512 (negℤ (pos m))
+zeros-base : (m : ℕ) → 120 - 4 * m ≡ raised 2 (least 2 31) (negℤ (pos m))
 zeros-base zero = refl
 zeros-base (suc m) = refl
 
+zeros-short : (m : ℕ) → natAbs (negℤ (pos m)) < 31 → m < 31
+zeros-short zero h = h
+zeros-short (suc m) h = h
+
+module _ (b m : ℕ) (k : Positive 31 b) (is : m ≡ run (first 31 b) 31 b) where
+  some : (0 < m) × (m < 32)
+  some = omega (arith, run-le (first 31 b) 31 b, run-positive 30 b)
+
+  regime-is : (d : ℕ) → first 31 b ≡ d → regimeOf d m ≡ regime 31 b
+  unfolding regime
+  regime-is d f = rw (← f) (ap (regimeOf (first 31 b)) is)
+
+  of-zeros : b < 2 ^ 30 → negℤ (pos m) ≡ regime 31 b
+  of-zeros h = regime-is 0 (first-is false 30 b (omega arith) h)
+
+  of-ones : 2 ^ 30 ≤ b → pos (m - 1) ≡ regime 31 b
+  of-ones h = regime-is 1 (first-is true 30 b (omega arith) (omega arith))
+
+  short : b < 2 ^ 30 → m < 31
+  short h = zeros-short m (rw (of-zeros h) (regime-small 31 b k))
+
 mul-result : tie.Need-mul-result
-mul-result c = let k = short _ _ (c .before .pre .1) in omega arith
+mul-result c = let k = some _ _ (c .before .pre .0) (c .before .pre .1) in omega arith
 
 sub-result : tie.Need-sub-result
-sub-result c = let k = short _ _ (c .before .pre .1) in omega arith
+sub-result c = let k = short _ _ (c .before .pre .0) (c .before .pre .1) (omega arith) in omega arith
 
 mul-result-2 : tie.Need-mul-result-2
-mul-result-2 c = let k = short _ _ (c .before .pre .1) in omega arith
+mul-result-2 c = let k = some _ _ (c .before .pre .0) (c .before .pre .1) in omega arith
 
 add-result : tie.Need-add-result
-add-result c = let k = short _ _ (c .before .pre .1) in omega arith
+add-result c = let k = some _ _ (c .before .pre .0) (c .before .pre .1) in omega arith
 
 returns : tie.Need-returns
 returns c =
     let a = c .before .args in
-    zeros-base (a .m) ∙ regime-is _ _ (c .before .pre .1) 0 (first-is false 30 (a .b) (omega arith) (omega arith))
+    zeros-base (a .m) ∙ ap (raised 2 (least 2 31)) (of-zeros _ _ (c .before .pre .0) (c .before .pre .1) (omega arith))
 
 returns-2 : tie.Need-returns-2
 returns-2 c =
     let a = c .before .args in
-    let k = short _ _ (c .before .pre .1) in
-    let base : 508 + 4 * a .m ≡ raised 2 512 (regimeOf 1 (a .m)) = omega arith in
-    base ∙ regime-is _ _ (c .before .pre .1) 1 (first-is true 30 (a .b) (omega arith) (omega arith))
+    let k = some _ _ (c .before .pre .0) (c .before .pre .1) in
+    let base : 116 + 4 * a .m ≡ raised 2 (least 2 31) (pos (a .m - 1)) = omega arith in
+    base ∙ ap (raised 2 (least 2 31)) (of-ones _ _ (c .before .pre .0) (c .before .pre .1) (omega arith))
 
 pub base-of-spec : {M : Type 1} → statement M
 base-of-spec = tie.close (tie.spec mul-result sub-result mul-result-2 add-result returns returns-2)

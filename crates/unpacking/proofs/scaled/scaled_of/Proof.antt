@@ -1,11 +1,11 @@
 -- `scaled_of` meets its contract: past the two tests, the pattern with its sign off is a positive one.
-use mathlib.Core.Path.{refl, sym, subst}
+use mathlib.Core.Path.{refl, sym, subst, subst₂}
 use mathlib.Core.Logic.{⊎-elim}
-use Prim.Native.Nat.{ℕ}
 use native.Mathlib.Omega.{arith}
-use Rattle.posit.specs.Pattern.{Positive}
-use Rattle.posit.proofs.Parts.{unsigned-positive}
+use Rattle.posit.specs.Pattern.{unsigned, Positive}
+use Rattle.posit.proofs.Unsigned.{unsigned-positive}
 use Rattle.unpacking.specs.Scaled.{Scales}
+use Rattle.unpacking.proofs.Valued.{scales}
 use borrow.Author.Needs.{needs}
 use Rattle.unpacking.proofs.scaled.scaled_of.Statement.{statement}
 use Rattle.unpacking.proofs.scaled.scaled_of.Tie as tie
@@ -26,10 +26,12 @@ returns-2 c = record { of-real = λ k. absurd (k .1 (c .if2 .taken)); of-other =
 
 returns-3 : tie.Need-returns-3
 returns-3 c =
-    let r = c .to-scaled .result in
+    let r = c .to-scaled .ensures in
     let k = c .before .before in
+    let p = k .before .before .args .p in
+    let above = unsigned-positive 31 p (omega arith) (k .before .if1 .left) (k .if2 .left) in
     record {
-      of-real = λ _. subst (λ (b : ℕ). Scales b (r .scale) (r .significand)) (c .before .sign-off .ensures) (c .to-scaled .ensures);
+      of-real = λ _. subst₂ (Scales (unsigned 31 p)) (sym (r .0)) (sym (r .1)) (rw (c .before .sign-off .ensures) (scales (unsigned 31 p) above));
       of-other = λ h. absurd (⊎-elim (k .before .if1 .left) (k .if2 .left) h);
     }
 

@@ -6,8 +6,8 @@ use Prim.Native.Nat.{_*_, _%_, _^_}
 use native.Mathlib.Nat.{mod-eq-of-lt}
 use native.Mathlib.Omega.{arith}
 use Rattle.posit.proofs.Word.{counted, first-is}
-use Rattle.unpacking.proofs.run_of.Statement.{statement}
-use Rattle.unpacking.proofs.run_of.Tie as tie
+use Rattle.unpacking.proofs.scaled.run_of.Statement.{statement}
+use Rattle.unpacking.proofs.scaled.run_of.Tie as tie
 
 returns : tie.Need-returns
 returns c =

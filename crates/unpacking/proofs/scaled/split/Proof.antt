@@ -6,8 +6,8 @@ use borrow.Author.Needs.{needs}
 use lib.Dec.{lit<}
 use Rattle.posit.specs.Pattern.{first, run}
 use Rattle.posit.proofs.Word.{run-le, shifts, behind, shifted-behind}
-use Rattle.unpacking.proofs.split.Statement.{statement}
-use Rattle.unpacking.proofs.split.Tie as tie
+use Rattle.unpacking.proofs.scaled.split.Statement.{statement}
+use Rattle.unpacking.proofs.scaled.split.Tie as tie
 
 top : (b m : ℕ) → m ≡ run (first 31 b) 31 b → b * 2 ^ m % 2 ^ 32 * 4 % 2 ^ 32 ≡ behind 2 31 b
 top b m e = rw e (shifts b (run (first 31 b) 31 b) 2 32 ∙ shifted-behind 2 31 b (lit< tt))

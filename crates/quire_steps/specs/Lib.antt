@@ -1,3 +1,0 @@
--- What the contracts of this crate mean.
-pub mod Operand
-pub mod Step
