@@ -16,7 +16,6 @@ use Rattle.posit.specs.Accumulator.{notReal, total, ofPosit, ofProduct, 
 use Rattle.posit.proofs.Computing.{everything}
 use Rattle.posit.proofs.Table.{Case, is, are, shown, held, holds}
 
-
 vectors : List Case
 unfolding everything
 vectors =
