@@ -1,12 +1,12 @@
 #!/usr/bin/env python3
-"""Makes the stored vectors of crates/replay and crates/quire_replay: their files `stdin`, and the counts of `stdout`.
+"""Makes the stored vectors of crates/replay: its file `stdin`, and the counts of `stdout`.
 
 The answers are the exact model's of tools/vectors.py, with Python's integers and rationals: a pattern is read by the standard's
 formula, and a result is rounded by comparing it with the cut. No answer comes from our code. The choice of operands is below;
 it starts from a fixed seed, so every run makes the same files. A run takes a minute or two.
 
-    python3 tools/replay_vectors.py           writes the four files, and says how near to a cut the results are
-    python3 tools/replay_vectors.py --check   says whether the four files are just these
+    python3 tools/replay_vectors.py           writes the two files, and says how near to a cut the results are
+    python3 tools/replay_vectors.py --check   says whether the two files are just these
 """
 import random
 import struct
@@ -19,7 +19,7 @@ from pathlib import Path
 
 import vectors
 
-CRATES = Path(__file__).resolve().parent.parent / "crates"
+CRATE = Path(__file__).resolve().parent.parent / "crates" / "replay"
 NAR, MASK = 0x80000000, 0xFFFFFFFF
 EXTREMES = [0, NAR, 1, 2, 3, 0x7FFFFFFF, 0x7FFFFFFE, 0x7FFFFFFD, 0x40000000, 0x3FFFFFFF, 0x40000001, 0x48000000]
 EXTREMES += [-p & MASK for p in EXTREMES if p not in (0, NAR)]
@@ -194,16 +194,16 @@ def vectors_of(name, count):
     return rows
 
 
-def posit_file(count=3000):
+def posit_records(count=3000):
     out, counts, lines = b"", {}, []
     for op, name in enumerate(OPERANDS):
         rows = vectors_of(name, count)
         for ps in rows:
             a, b, c = (list(ps) + [0, 0])[:3]
             out += struct.pack(">BIIII", op, a, b, c, answer(name, ps))
-        lines.append(f"{name} {len(rows)} run 0 wrong\n")
+        lines.append(f"posit {name} {len(rows)} run 0 wrong\n")
         counts[name] = places(name, rows)
-    return out, "".join(lines) + "unknown 0 run 0 wrong\n", counts
+    return out, "".join(lines), counts
 
 
 # ---- how near the results are
@@ -336,14 +336,14 @@ def counted(counts, step, before, t):
         counts["four words or more change"] += changed >= 4
 
 
-def quire_file(count=2000):
+def quire_records(count=2000):
     names = STEPS + ["to_posit"]
     todo, done, out = dict.fromkeys(STEPS, count), dict.fromkeys(names, 0), b""
     counts = dict.fromkeys(("below", "on", "above", "to NaR", "to 0", "to the last two totals", "four words or more change"), 0)
     before = 0
     while max(todo.values()) > 0:
         for name, a, b, t in group(max(STEPS, key=todo.get), 4, todo):
-            out += struct.pack(">BII", names.index(name), a, b) + bytes(vectors.image(512, t))
+            out += struct.pack(">BII", len(OPERANDS) + names.index(name), a, b) + bytes(vectors.image(512, t))
             done[name] += 1
             if name in todo:
                 todo[name] -= 1
@@ -351,25 +351,22 @@ def quire_file(count=2000):
             elif t is not None and (p := place(Fraction(t, 2 ** 240))):
                 counts[p] += 1
             before = t
-    return out, "".join(f"{n} {done[n]} run 0 wrong\n" for n in names) + "unknown 0 run 0 wrong\n", {"accumulator": counts}
+    return out, "".join(f"quire {n} {done[n]} run 0 wrong\n" for n in names), {"accumulator": counts}
 
 
 def main():
-    same = True
-    for crate, (data, text, counts) in (("replay", posit_file()), ("quire_replay", quire_file())):
-        for name, new in (("stdin", data), ("stdout", text.encode())):
-            path = CRATES / crate / name
-            if "--check" in sys.argv:
-                same = same and path.exists() and path.read_bytes() == new
-            else:
-                path.write_bytes(new)
-        if "--check" not in sys.argv:
-            print(text, end="")
-            for name, c in counts.items():
-                print(f"  {name}: {c}")
+    posits, quires = posit_records(), quire_records()
+    text = posits[1] + quires[1] + "unknown 0 run 0 wrong\n"
+    files = {"stdin": posits[0] + quires[0], "stdout": text.encode()}
     if "--check" in sys.argv:
+        same = all((CRATE / name).exists() and (CRATE / name).read_bytes() == new for name, new in files.items())
         print("the stored vectors are these" if same else "the stored vectors DIFFER")
         sys.exit(not same)
+    for name, new in files.items():
+        (CRATE / name).write_bytes(new)
+    print(text, end="")
+    for name, c in (posits[2] | quires[2]).items():
+        print(f"  {name}: {c}")
 
 
 if __name__ == "__main__":

@@ -54,20 +54,6 @@ pub(crate) fn line_after(text: &[u8], end: usize) -> usize
     if end < text.len() { end + 1 } else { end }
 }
 
-pub(crate) fn is_same(x: &[u8], y: &[u8]) -> bool {
-    if x.len() != y.len() {
-        return false;
-    }
-    let mut i: usize = 0;
-    while i < x.len() {
-        if x[i] != y[i] {
-            return false;
-        }
-        i += 1;
-    }
-    true
-}
-
 // The pair that a line spells.
 fn pair_of(line: &[u8]) -> Pair {
     if line.len() != 17 {

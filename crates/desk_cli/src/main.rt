@@ -68,9 +68,9 @@ fn read_text(text: &mut [u8]) -> TextRead
 fn answer(text: &[u8]) {
     let end = lines::line_end(text, 0);
     let start = lines::line_after(text, end);
-    if lines::is_same(&text[0..end], b"claim") {
+    if check::same(&text[0..end], b"claim") {
         answer_claim(text, start);
-    } else if lines::is_same(&text[0..end], b"image") {
+    } else if check::same(&text[0..end], b"image") {
         answer_image(text, start);
     } else {
         words::say_of_line(1, b"neither the word claim nor the word image");

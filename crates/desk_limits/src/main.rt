@@ -103,14 +103,14 @@ fn claims() {
     let right = image_of([0, 0, 0, 0, 0x0005_0000_0000_0000, 0, 0, 0]);
     say(check_claim(&a, &b, &right).number() as u64);
     say(changed_refused(right));
-    claim_at(0);
-    claim_at(63);
-    claim_at(64);
-    claim_at(65);
-    order_at(16385, 16384, 63);
-    order_at(16385, 16385, 63);
-    order_at(16384, 16384, 63);
-    order_at(16384, 16384, 64);
+    claim_at(0, 0, 0);
+    claim_at(0, 0, 63);
+    claim_at(0, 0, 64);
+    claim_at(0, 0, 65);
+    claim_at(16385, 16384, 63);
+    claim_at(16385, 16385, 63);
+    claim_at(16384, 16384, 63);
+    claim_at(16384, 16384, 64);
 }
 
 // A NaR claim for a batch that gives NaR, and for one that does not; and a number for a batch that gives NaR.
@@ -143,24 +143,14 @@ fn changed_refused(right: [u8; 64]) -> u64 {
     n
 }
 
-// A claim of n zero bytes for an empty batch.
-fn claim_at(n: usize) {
-    let a = [0u32; 1];
-    let b = [0u32; 1];
-    let claim = [0u8; 65];
-    if n <= 65 {
-        say(check_claim(&a[..0], &b[..0], &claim[..n]).number() as u64);
-    }
-}
-
-// A batch of zeros with a claim of k zero bytes.
-fn order_at(m: usize, n: usize, k: usize) {
+// Lists of m and n zeros with a claim of k zero bytes.
+fn claim_at(m: usize, n: usize, k: usize) {
     let a = [0u32; 16385];
     let b = [0u32; 16385];
-    let claim = [0u8; 64];
+    let claim = [0u8; 65];
     if m <= 16385 {
         if n <= 16385 {
-            if k <= 64 {
+            if k <= 65 {
                 say(check_claim(&a[..m], &b[..n], &claim[..k]).number() as u64);
             }
         }

@@ -1,6 +1,7 @@
 // The bench sheet's cases of the accumulator, 4 and 12 to 14, run on the code. That each check holds is proved from the contracts alone.
 ghost use mathlib.Core.Path.{_≡_};
-ghost use Rattle.posit.specs.Digits.{same};
+ghost use mathlib.Core.Bool.{true};
+use desk::image::image_of;
 use p32e2::P32E2;
 use quire_steps::add_product;
 use quire_steps::cleared;
@@ -37,15 +38,9 @@ fn main() {
     check::expect(is_nar(sub_product(fewest, P32E2(0x1), P32E2(0x1))));
 }
 
-// Whether two accumulators have the same words.
+// Whether two accumulators have the same words: their images are compared.
 fn are(q: [u64; 8], r: [u64; 8]) -> bool
-    ensures { λ t. ⌜ t ≡ same q r ⌝ }
+    ensures { λ t. ⌜ (t ≡ true → q ≡ r) × (q ≡ r → t ≡ true) ⌝ }
 {
-    let mut equal = true;
-    let mut i: usize = 0;
-    while i < 8 {
-        equal = equal & (q[i] == r[i]);
-        i += 1;
-    }
-    equal
+    check::same(&image_of(q), &image_of(r))
 }

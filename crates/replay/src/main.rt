@@ -1,39 +1,50 @@
-// Stored vectors of the posit's operations, run on the code. Each record of `stdin` is an operation, three patterns and the answer that an exact model
-// gave (tools/replay_vectors.py). A line is printed for each operation: how many were run, and how many answered something else.
+// Stored vectors of the posit's operations, of the accumulator's steps and of its rounding, run on the code. Each record of `stdin` has its answer from an exact
+// model (tools/replay_vectors.py). A line is printed for each operation: how many were run, and how many answered something else.
 ghost use Prim.Native.Nat.{_≤_};
+use desk::image::image_of;
+use desk::image::read_image;
 use p32e2::P32E2;
+use quire_steps::add_posit;
+use quire_steps::add_product;
+use quire_steps::neg;
+use quire_steps::sub_posit;
+use quire_steps::sub_product;
+use quire_totals::to_posit;
 
-// An operation's number, its operands, and the stored answer. `whole` is false where the input has ended.
+// A record's bytes: an operation's number, two patterns, and then, for the posit's operations, a third pattern and the answer; for the accumulator's, an image.
+// Patterns are high byte first. `whole` is false where the input has ended.
 struct Record {
     whole: bool,
-    op: u8,
-    a: u32,
-    b: u32,
-    c: u32,
-    answer: u32,
+    bytes: [u8; 73],
 }
 
-// For each operation's number how many were run and how many were wrong. Place 10 is for numbers that no operation has.
+// For each operation's number how many were run and how many were wrong. Place 16 is for numbers that no operation has.
 struct Tally {
-    run: [u64; 11],
-    wrong: [u64; 11],
+    run: [u64; 17],
+    wrong: [u64; 17],
 }
 
 fn main() {
     let t = replayed();
     let run = t.run;
     let wrong = t.wrong;
-    line(b"neg", run[0], wrong[0]);
-    line(b"add", run[1], wrong[1]);
-    line(b"sub", run[2], wrong[2]);
-    line(b"mul", run[3], wrong[3]);
-    line(b"div", run[4], wrong[4]);
-    line(b"recip", run[5], wrong[5]);
-    line(b"sqrt", run[6], wrong[6]);
-    line(b"mul_add", run[7], wrong[7]);
-    line(b"mul_sub", run[8], wrong[8]);
-    line(b"sub_product", run[9], wrong[9]);
-    line(b"unknown", run[10], wrong[10]);
+    line(b"posit neg", run[0], wrong[0]);
+    line(b"posit add", run[1], wrong[1]);
+    line(b"posit sub", run[2], wrong[2]);
+    line(b"posit mul", run[3], wrong[3]);
+    line(b"posit div", run[4], wrong[4]);
+    line(b"posit recip", run[5], wrong[5]);
+    line(b"posit sqrt", run[6], wrong[6]);
+    line(b"posit mul_add", run[7], wrong[7]);
+    line(b"posit mul_sub", run[8], wrong[8]);
+    line(b"posit sub_product", run[9], wrong[9]);
+    line(b"quire add_product", run[10], wrong[10]);
+    line(b"quire sub_product", run[11], wrong[11]);
+    line(b"quire add_posit", run[12], wrong[12]);
+    line(b"quire sub_posit", run[13], wrong[13]);
+    line(b"quire neg", run[14], wrong[14]);
+    line(b"quire to_posit", run[15], wrong[15]);
+    line(b"unknown", run[16], wrong[16]);
 }
 
 fn line(name: &[u8], run: u64, wrong: u64) {
@@ -47,8 +58,9 @@ fn line(name: &[u8], run: u64, wrong: u64) {
 
 // Every record to the end of the input, of which a million are read at most.
 fn replayed() -> Tally {
-    let mut run = [0u64; 11];
-    let mut wrong = [0u64; 11];
+    let mut run = [0u64; 17];
+    let mut wrong = [0u64; 17];
+    let mut before = [0u8; 73];
     let mut left: u64 = 1_000_000;
     while 0 < left {
         left -= 1;
@@ -56,10 +68,12 @@ fn replayed() -> Tally {
         if !r.whole {
             left = 0;
         } else {
-            let i = place(r.op);
-            let bad = worked_out(r) != r.answer;
+            let bytes = r.bytes;
+            let i = place(bytes[0]);
+            let bad = !is_right(before, bytes);
             run[i] = std::num::wrapping_add_u64(run[i], 1);
             wrong[i] = std::num::wrapping_add_u64(wrong[i], bad as u64);
+            before = bytes;
         }
     }
     Tally { run, wrong }
@@ -67,48 +81,72 @@ fn replayed() -> Tally {
 
 // An operation's place in the tally.
 fn place(op: u8) -> usize
-    ensures { λ r. ⌜ r ≤ 10 ⌝ }
+    ensures { λ r. ⌜ r ≤ 16 ⌝ }
 {
-    if op < 10 { op as usize } else { 10 }
+    if op < 16 { op as usize } else { 16 }
 }
 
-// What our code answers. A number that no operation has is answered by the opposite of the stored answer's digits, which is never right.
-fn worked_out(r: Record) -> u32 {
-    let a = P32E2(r.a);
-    let b = P32E2(r.b);
-    let c = P32E2(r.c);
-    let op = r.op;
+// Whether our code gives a record's answer. A step leads from the image of the record before it to its own; a rounding is of its own image, and its answer is
+// the first pattern. A number that no operation has is not right.
+fn is_right(before: [u8; 73], record: [u8; 73]) -> bool {
+    let a = P32E2(word(&record, 1));
+    let b = P32E2(word(&record, 5));
+    let c = P32E2(word(&record, 9));
+    let answer = word(&record, 13);
+    let q = state_of(before);
+    let op = record[0];
     match op {
-        0 => a.neg().to_bits(),
-        1 => a.add(b).to_bits(),
-        2 => a.sub(b).to_bits(),
-        3 => a.mul(b).to_bits(),
-        4 => a.div(b).to_bits(),
-        5 => a.recip().to_bits(),
-        6 => a.sqrt().to_bits(),
-        7 => a.mul_add(b, c).to_bits(),
-        8 => a.mul_sub(b, c).to_bits(),
-        9 => a.sub_product(b, c).to_bits(),
-        _ => !r.answer,
+        0 => a.neg().to_bits() == answer,
+        1 => a.add(b).to_bits() == answer,
+        2 => a.sub(b).to_bits() == answer,
+        3 => a.mul(b).to_bits() == answer,
+        4 => a.div(b).to_bits() == answer,
+        5 => a.recip().to_bits() == answer,
+        6 => a.sqrt().to_bits() == answer,
+        7 => a.mul_add(b, c).to_bits() == answer,
+        8 => a.mul_sub(b, c).to_bits() == answer,
+        9 => a.sub_product(b, c).to_bits() == answer,
+        10 => leads_to(add_product(q, a, b), record),
+        11 => leads_to(sub_product(q, a, b), record),
+        12 => leads_to(add_posit(q, a), record),
+        13 => leads_to(sub_posit(q, a), record),
+        14 => leads_to(neg(q), record),
+        15 => to_posit(state_of(record)).to_bits() == word(&record, 1),
+        _ => false,
     }
+}
+
+// Whether a record has the image of the state q.
+fn leads_to(q: [u64; 8], record: [u8; 73]) -> bool {
+    check::same(&image_of(q), &record[9..])
+}
+
+// The state whose image a record has.
+fn state_of(record: [u8; 73]) -> [u64; 8] {
+    read_image([0; 8], &record[9..]).words
 }
 
 fn next() -> Record {
-    let mut bytes = [0u8; 17];
-    let n = io::read_full(0, &mut bytes);
+    let mut bytes = [0u8; 73];
+    let n = io::read_full(0, &mut bytes[..9]);
+    let size = size_of(bytes[0]);
+    let m = io::read_full(0, &mut bytes[9..size]);
     Record {
-        whole: n == 17,
-        op: bytes[0],
-        a: word(&bytes, 1),
-        b: word(&bytes, 5),
-        c: word(&bytes, 9),
-        answer: word(&bytes, 13),
+        whole: n + m == size,
+        bytes,
     }
 }
 
+// How long a record is.
+fn size_of(op: u8) -> usize
+    ensures { λ r. ⌜ (9 ≤ r) × (r ≤ 73) ⌝ }
+{
+    if op < 10 { 17 } else { 73 }
+}
+
 // The four bytes from a place on, the highest first.
-fn word(bytes: &[u8; 17], at: usize) -> u32
-    requires { ⌜ at ≤ 13 ⌝ }
+fn word(bytes: &[u8; 73], at: usize) -> u32
+    requires { ⌜ at ≤ 69 ⌝ }
 {
     wide(bytes[at]) << 24
         | wide(bytes[at + 1]) << 16

@@ -10,13 +10,13 @@ array-share-prefix-a : tie.Need-array-share-prefix-a
 array-share-prefix-a c = search needs
 
 slice-aggregate-check-claim : tie.Need-slice-aggregate-check-claim
-slice-aggregate-check-claim c = search needs
+slice-aggregate-check-claim c = sym (length-take-le _ _ (omega arith))
 
 array-share-prefix-b : tie.Need-array-share-prefix-b
 array-share-prefix-b c = search needs
 
 slice-aggregate-check-claim-2 : tie.Need-slice-aggregate-check-claim-2
-slice-aggregate-check-claim-2 c = search needs
+slice-aggregate-check-claim-2 c = sym (length-take-le _ _ (omega arith))
 
 array-share-prefix-claim : tie.Need-array-share-prefix-claim
 array-share-prefix-claim c = search needs
@@ -42,6 +42,12 @@ returns c = search needs
 returns-2 : tie.Need-returns-2
 returns-2 c = search needs
 
+returns-3 : tie.Need-returns-3
+returns-3 c = search needs
+
+returns-4 : tie.Need-returns-4
+returns-4 c = search needs
+
 pub claim-at-spec : {M : Type 1} → statement M
 claim-at-spec =
     tie.close
@@ -57,4 +63,6 @@ claim-at-spec =
     cast-say
     say-requires
     returns
-    returns-2)
+    returns-2
+    returns-3
+    returns-4)

@@ -1,70 +1,64 @@
--- `are` meets its contract: what was found so far, and what is left to compare, are together the answer (`same-more`).
-use mathlib.Core.Path.{_≡_, refl, sym, _∙_}
-use mathlib.Core.Bool.{_&&_}
-use Prim.Native.Nat.{_-_, _≤_}
-use native.Mathlib.Omega.{arith}
+-- `are` meets its contract: words that an array holds have one image, and no others have it (`one-image`).
+use mathlib.Core.Path.{_≡_, refl, sym, ap, _∙_}
+use mathlib.Core.List.{List}
+use Prim.Native.Nat.{ℕ}
 use borrow.Author.Needs.{needs}
-use lib.ListN.{length, drop}
-use Rattle.posit.specs.Digits.{same}
-use Rattle.desk.proofs.Summed.{same-more, same-end}
+use borrow.Kind.Array.{rArr, eInt, eInt-laws}
+use mir.Syntax.{w64}
+use lib.Dec.{lit<}
+use Rattle.posit.specs.Accumulator.{words, fromWords, image, fromImage}
+use Rattle.posit.proofs.State.{Held, state-held, image-read}
+use Rattle.quire_words.specs.Words.{wide}
+use Rattle.quire_words.proofs.Places.{wide-typed}
+use Rattle.desk.proofs.Spelt.{words-back}
 use Rattle.quire_sheet.proofs.are.Statement.{statement}
 use Rattle.quire_sheet.proofs.are.Tie as tie
 
-abbrev Inv-loop : tie.InvT-loop
-Inv-loop q r equal₀ i₀ equal i = (i ≤ 8) × ((equal && same (drop i q) (drop i r)) ≡ same q r)
+-- a value of the type [u64; 8], as the logic has it
+abbrev Typed : List ℕ → Type 0
+Typed ws = rArr {k = 0} (eInt w64) (eInt-laws w64) 8 .is .Ok tt ws
 
-abbrev μ-loop : tie.MeasureT-loop
-μ-loop q r equal₀ i₀ equal i = 8 - i
+held : (ws : List ℕ) → Typed ws → Held 512 (fromWords 512 ws)
+unfolding fromWords
+held ws o = state-held 512 (lit< tt) (wide ws) (wide-typed ws o)
 
-loop-holds : tie.Need-loop-holds Inv-loop μ-loop
-loop-holds c = (search needs, refl)
+from-image : (ws : List ℕ) → Typed ws → ws ≡ words 512 (fromImage 512 (image 512 (fromWords 512 ws)))
+from-image ws o = words-back ws o ∙ ap (words 512) (sym (image-read 512 (lit< tt) refl (fromWords 512 ws) (held ws o)))
 
-mul-equal : tie.Need-mul-equal Inv-loop μ-loop
-mul-equal c = search needs
+one-image : (q r : List ℕ) → Typed q → Typed r → image 512 (fromWords 512 q) ≡ image 512 (fromWords 512 r) → q ≡ r
+one-image q r oq or e = from-image q oq ∙ ap (λ (bs : List ℕ). words 512 (fromImage 512 bs)) e ∙ sym (from-image r or)
 
-array-read-equal : tie.Need-array-read-equal Inv-loop μ-loop
-array-read-equal c = search needs
+image-of-requires : tie.Need-image-of-requires
+image-of-requires c κs = search needs
 
-mul-equal-2 : tie.Need-mul-equal-2 Inv-loop μ-loop
-mul-equal-2 c = search needs
+slice-aggregate-same : tie.Need-slice-aggregate-same
+slice-aggregate-same c = search needs
 
-array-read-equal-2 : tie.Need-array-read-equal-2 Inv-loop μ-loop
-array-read-equal-2 c = search needs
+image-of-requires-2 : tie.Need-image-of-requires-2
+image-of-requires-2 c κs = search needs
 
-add-i : tie.Need-add-i Inv-loop μ-loop
-add-i c = search needs
+slice-aggregate-same-2 : tie.Need-slice-aggregate-same-2
+slice-aggregate-same-2 c = search needs
 
-loop-less : tie.Need-loop-less Inv-loop μ-loop
-loop-less c = search needs
+same-requires : tie.Need-same-requires
+same-requires c κs = search needs
 
-loop-again : tie.Need-loop-again Inv-loop μ-loop
-loop-again c =
-    let k = c .before .before .args in
-    let lq : length (k .t1) ≡ 8 = search needs in
-    let lr : length (k .t2) ≡ 8 = search needs in
-    let l = c .before .loop in
-    (search needs, sym (same-more (l .equal) (k .t1) (k .t2) (l .i) (omega arith) (omega arith)) ∙ l .inv .1)
-
-returns : tie.Need-returns Inv-loop μ-loop
+returns : tie.Need-returns
 returns c =
-    let k = c .before .before .args in
-    let lq : length (k .t1) ≡ 8 = search needs in
-    let lr : length (k .t2) ≡ 8 = search needs in
-    let l = c .before .loop in
-    sym (same-end (l .equal) (k .t1) (k .t2) (l .i) (omega arith) (omega arith)) ∙ l .inv .1
+    let k = c .before .before .before .before .before in
+    let first = c .before .before .before .before .image-of .ensures in
+    let second = c .before .before .image-of2 .ensures in (
+      λ e. one-image (k .args .q) (k .args .r) (k .good .0) (k .good .1 .0) (sym first ∙ c .same .ensures .0 e ∙ second),
+      λ e. c .same .ensures .1 (first ∙ ap (λ (ws : List ℕ). image 512 (fromWords 512 ws)) e ∙ sym second),
+    )
 
 pub are-spec : {M : Type 1} → statement M
 are-spec =
     tie.close
     (tie.spec
-    Inv-loop
-    μ-loop
-    loop-holds
-    mul-equal
-    array-read-equal
-    mul-equal-2
-    array-read-equal-2
-    add-i
-    loop-less
-    loop-again
+    image-of-requires
+    slice-aggregate-same
+    image-of-requires-2
+    slice-aggregate-same-2
+    same-requires
     returns)

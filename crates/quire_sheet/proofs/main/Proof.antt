@@ -1,18 +1,17 @@
 -- `main` meets its contract: each check holds, since what a step ensures computes to what the sheet says.
-use mathlib.Core.Path.{_≡_, refl, ap, _∙_}
-use mathlib.Core.Bool.{true, not}
-use mathlib.Core.List.{List, [], _∷_}
-use Prim.Native.Nat.{ℕ, _-_, _^_}
+use mathlib.Core.Path.{_≡_, ap, _∙_}
+use mathlib.Core.Bool.{not}
+use mathlib.Core.List.{List}
+use Prim.Native.Nat.{ℕ}
 use Rattle.posit.specs.Accumulator.{clear, isNotReal, isClear, plus, ofProduct, words, fromWords}
-use Rattle.posit.specs.Digits.{same}
 use Rattle.posit.proofs.Computing.{everything}
 use borrow.Author.Needs.{needs}
 use Rattle.quire_sheet.proofs.main.Statement.{statement}
 use Rattle.quire_sheet.proofs.main.Tie as tie
 
 -- the square of the posit p added to a clear state
-from-clear : (p : ℕ) (ws q r : List ℕ) → q ≡ words 512 clear → r ≡ words 512 (plus 512 (fromWords 512 q) (ofProduct 2 31 p p)) → same (words 512 (plus 512 (fromWords 512 (words 512 clear)) (ofProduct 2 31 p p))) ws ≡ true → same r ws ≡ true
-from-clear p ws q r e f s = ap (λ (l : List ℕ). same l ws) (f ∙ ap (λ (l : List ℕ). words 512 (plus 512 (fromWords 512 l) (ofProduct 2 31 p p))) e) ∙ s
+from-clear : (p : ℕ) (q r : List ℕ) → q ≡ words 512 clear → r ≡ words 512 (plus 512 (fromWords 512 q) (ofProduct 2 31 p p)) → r ≡ words 512 (plus 512 (fromWords 512 (words 512 clear)) (ofProduct 2 31 p p))
+from-clear p q r e f = f ∙ ap (λ (l : List ℕ). words 512 (plus 512 (fromWords 512 l) (ofProduct 2 31 p p))) e
 
 cleared-requires : tie.Need-cleared-requires
 cleared-requires c κs = search needs
@@ -25,7 +24,7 @@ are-requires c κs = search needs
 
 expect-requires : tie.Need-expect-requires
 unfolding everything
-expect-requires c κs = c .are .ensures ∙ from-clear 0x1 (0 ∷ 0 ∷ 0 ∷ 0 ∷ 0 ∷ 0 ∷ 0 ∷ 1 ∷ []) _ _ (c .before .before .cleared .ensures) (c .before .add-product .ensures) refl
+expect-requires c κs = c .are .ensures .1 (from-clear 0x1 _ _ (c .before .before .cleared .ensures) (c .before .add-product .ensures))
 
 cleared-requires-2 : tie.Need-cleared-requires-2
 cleared-requires-2 c κs = search needs
@@ -38,7 +37,7 @@ are-requires-2 c κs = search needs
 
 expect-requires-2 : tie.Need-expect-requires-2
 unfolding everything
-expect-requires-2 c κs = c .are2 .ensures ∙ from-clear 0x100 (0 ∷ 0 ∷ 0 ∷ 0 ∷ 0 ∷ 0 ∷ 1 ∷ 0 ∷ []) _ _ (c .before .before .cleared2 .ensures) (c .before .add-product2 .ensures) refl
+expect-requires-2 c κs = c .are2 .ensures .1 (from-clear 0x100 _ _ (c .before .before .cleared2 .ensures) (c .before .add-product2 .ensures))
 
 is-zero-requires : tie.Need-is-zero-requires
 is-zero-requires c κs = search needs
@@ -47,7 +46,7 @@ expect-requires-3 : tie.Need-expect-requires-3
 unfolding everything
 expect-requires-3 c κs =
     let k = c .before .before .before in
-    ap not (c .is-zero .ensures ∙ ap (λ (l : List ℕ). isClear (fromWords 512 l)) (k .add-product2 .ensures ∙ ap (λ (l : List ℕ). words 512 (plus 512 (fromWords 512 l) (ofProduct 2 31 0x100 0x100))) (k .before .cleared2 .ensures)))
+    ap not (c .is-zero .ensures ∙ ap (λ (l : List ℕ). isClear (fromWords 512 l)) (from-clear 0x100 _ _ (k .before .cleared2 .ensures) (k .add-product2 .ensures)))
 
 neg-requires : tie.Need-neg-requires
 neg-requires c κs = search needs
@@ -57,7 +56,7 @@ are-requires-3 c κs = search needs
 
 expect-requires-4 : tie.Need-expect-requires-4
 unfolding everything
-expect-requires-4 c κs = c .are3 .ensures ∙ ap (λ (l : List ℕ). same l ((2 ^ 64 - 1) ∷ (2 ^ 64 - 1) ∷ (2 ^ 64 - 1) ∷ (2 ^ 64 - 1) ∷ 0xffff000000000000 ∷ 0 ∷ 0 ∷ 0 ∷ [])) (c .before .neg .ensures)
+expect-requires-4 c κs = c .are3 .ensures .1 (c .before .neg .ensures)
 
 add-product-requires-3 : tie.Need-add-product-requires-3
 add-product-requires-3 c κs = search needs

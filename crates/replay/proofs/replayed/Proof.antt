@@ -4,10 +4,10 @@ use Rattle.replay.proofs.replayed.Statement.{statement}
 use Rattle.replay.proofs.replayed.Tie as tie
 
 abbrev Inv-loop : tie.InvT-loop
-Inv-loop run₀ wrong₀ left₀ run wrong left = Unit {0}
+Inv-loop run₀ wrong₀ before₀ left₀ run wrong before left = Unit {0}
 
 abbrev μ-loop : tie.MeasureT-loop
-μ-loop run₀ wrong₀ left₀ run wrong left = left
+μ-loop run₀ wrong₀ before₀ left₀ run wrong before left = left
 
 loop-holds : tie.Need-loop-holds Inv-loop μ-loop
 loop-holds c = search needs
@@ -24,11 +24,14 @@ loop-less c = search needs
 loop-again : tie.Need-loop-again Inv-loop μ-loop
 loop-again c = search needs
 
+array-read-place : tie.Need-array-read-place Inv-loop μ-loop
+array-read-place c = search needs
+
 place-requires : tie.Need-place-requires Inv-loop μ-loop
 place-requires c κs = search needs
 
-worked-out-requires : tie.Need-worked-out-requires Inv-loop μ-loop
-worked-out-requires c κs = search needs
+is-right-requires : tie.Need-is-right-requires Inv-loop μ-loop
+is-right-requires c κs = search needs
 
 mul-wrapping-add-u64 : tie.Need-mul-wrapping-add-u64 Inv-loop μ-loop
 mul-wrapping-add-u64 c = search needs
@@ -83,8 +86,9 @@ replayed-spec =
     next-requires
     loop-less
     loop-again
+    array-read-place
     place-requires
-    worked-out-requires
+    is-right-requires
     mul-wrapping-add-u64
     array-read-wrapping-add-u64
     wrapping-add-u64-requires
