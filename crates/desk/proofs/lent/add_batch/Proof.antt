@@ -21,5 +21,5 @@ use Rattle.desk.proofs.lent.add_batch.Code as code
 pub add-batch-spec : {M : Type 1} → stated.statement M
 unfolding code.routine
 add-batch-spec 𝓤 H 𝓜 𝓖 𝓡 =
-    stores 2 with-field quire-holds (slice 0 tt (uint w32) ∷ slice 1 tt (uint w32) ∷ []) (part 0 added-words) (part 1 added-answer) (λ (ws, (a, (b, _))) ws′ r _. (batchNumber r ≡ batchRefusal (now a) (now b)) × (ws′ ≡ words 512 (afterBatch 2 31 512 (fromWords 512 ws) (now a) (now b)))) 𝓤
+    stores 2 with-field quire-holds (slice 0 tt (uint w32) ∷ slice 1 tt (uint w32) ∷ []) (part 0 added-words) (part 1 added-answer) (λ (ws, (a, (b, _))) ws′ r _. (batchNumber r ≡ batchRefusal (now a) (now b)) × (ws′ ≡ words 512 (afterBatch 2 31 512 (fromWords 512 ws) (now a) (now b)))) code.function 𝓤
     code.env key.name _ _ refl H 𝓜 𝓖 𝓡 (core.met 𝓤 H 𝓜 𝓖 𝓡) (code.unfolded 𝓤 H 𝓜 𝓡)

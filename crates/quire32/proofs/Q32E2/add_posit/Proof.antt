@@ -14,5 +14,5 @@ use Rattle.quire32.proofs.Q32E2.add_posit.Code as code
 pub add-posit-spec : {M : Type 1} → stated.statement M
 unfolding code.routine
 add-posit-spec 𝓤 H 𝓜 𝓖 𝓡 =
-    writes 0 with-field quire-holds (value posit ∷ []) (λ (ws, (p, _)) r _. r ≡ words 512 (plus 512 (fromWords 512 ws) (ofPosit 2 31 (p .0)))) 𝓤
+    writes 0 with-field quire-holds (value posit ∷ []) (λ (ws, (p, _)) r _. r ≡ words 512 (plus 512 (fromWords 512 ws) (ofPosit 2 31 (p .0)))) code.function 𝓤
     code.env key.name _ _ refl H 𝓜 𝓖 𝓡 (search cores) (code.unfolded 𝓤 H 𝓜 𝓡)

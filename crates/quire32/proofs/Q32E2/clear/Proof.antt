@@ -13,5 +13,5 @@ use Rattle.quire32.proofs.Q32E2.clear.Code as code
 pub clear-spec : {M : Type 1} → stated.statement M
 unfolding code.routine
 clear-spec 𝓤 H 𝓜 𝓖 𝓡 =
-    writes 0 without quire-holds [] (λ _ r _. r ≡ words 512 clear) 𝓤
+    writes 0 without quire-holds [] (λ _ r _. r ≡ words 512 clear) code.function 𝓤
     code.env key.name _ _ refl H 𝓜 𝓖 𝓡 (search cores) (code.unfolded 𝓤 H 𝓜 𝓡)

@@ -13,5 +13,5 @@ use Rattle.quire32.proofs.Q32E2.neg.Code as code
 pub neg-spec : {M : Type 1} → stated.statement M
 unfolding code.routine
 neg-spec 𝓤 H 𝓜 𝓖 𝓡 =
-    writes 0 with-field quire-holds [] (λ (ws, _) r _. r ≡ words 512 (negated (fromWords 512 ws))) 𝓤
+    writes 0 with-field quire-holds [] (λ (ws, _) r _. r ≡ words 512 (negated (fromWords 512 ws))) code.function 𝓤
     code.env key.name _ _ refl H 𝓜 𝓖 𝓡 (search cores) (code.unfolded 𝓤 H 𝓜 𝓡)

@@ -14,5 +14,5 @@ use Rattle.quire32.proofs.Q32E2.sub_product.Code as code
 pub sub-product-spec : {M : Type 1} → stated.statement M
 unfolding code.routine
 sub-product-spec 𝓤 H 𝓜 𝓖 𝓡 =
-    writes 0 with-field quire-holds (value posit ∷ value posit ∷ []) (λ (ws, (a, (b, _))) r _. r ≡ words 512 (minus 512 (fromWords 512 ws) (ofProduct 2 31 (a .0) (b .0)))) 𝓤
+    writes 0 with-field quire-holds (value posit ∷ value posit ∷ []) (λ (ws, (a, (b, _))) r _. r ≡ words 512 (minus 512 (fromWords 512 ws) (ofProduct 2 31 (a .0) (b .0)))) code.function 𝓤
     code.env key.name _ _ refl H 𝓜 𝓖 𝓡 (search cores) (code.unfolded 𝓤 H 𝓜 𝓡)
