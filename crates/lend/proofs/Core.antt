@@ -89,14 +89,28 @@ module _ {n : ℕ} {S F : Solid} (O : Holds S F) (Xs : List (Arg n)) where
   handed-ends with-field w e = (w, e)
   handed-ends without w e = e
 
-  -- its own locals: the field is copied to the first, and the rest serve the arguments. In the code that calls, k is the first of them
+  -- the types of the locals that the field and the arguments are copied to. In the code that calls, k is the field's, and those of the arguments begin at l
   abbrev pub Copied : Hands → List Ty
   Copied with-field = F .ty ∷ copies Xs
   Copied without = copies Xs
 
-  abbrev pub calling : Hands → ℕ → Name → Place → Body → Body
-  calling with-field k f d rest = seq (assign (place k []) (rvOpd (copy (self-0 S)))) (lending 2 (suc k) Xs (seq (call f (copy (place k []) ∷ operands 2 (suc k) Xs) d) rest))
-  calling without k f d rest = lending 2 k Xs (seq (call f (operands 2 k Xs) d) rest)
+  abbrev pub calling : Hands → ℕ → ℕ → Name → Place → Body → Body
+  calling with-field k l f d rest = seq (assign (place k []) (rvOpd (copy (self-0 S)))) (lending 2 l Xs (seq (call f (copy (place k []) ∷ operands 2 l Xs) d) rest))
+  calling without k l f d rest = lending 2 l Xs (seq (call f (operands 2 l Xs) d) rest)
+
+  -- they lie there
+  abbrev pub Placed : (u : Hands) → List (Ty × ℕ) → ℕ → ℕ → Blocks (Copied u) → Type 0
+  Placed with-field E k l cs = Lie E k (F .ty ∷ []) (cs .0, tt) × Lie E l (copies Xs) (cs .1)
+  Placed without E k l cs = Lie E l (copies Xs) cs
+
+  -- one after the other from k on, the arguments' begin at
+  abbrev pub behind : Hands → ℕ → ℕ
+  behind with-field k = suc k
+  behind without k = k
+
+  pub in-order : (u : Hands) (E : List (Ty × ℕ)) (k : ℕ) (cs : Blocks (Copied u)) → Lie E k (Copied u) cs → Placed u E k (behind u k) cs
+  in-order with-field E k cs is = ((_, is .1), lie-next E k (F .ty) (copies Xs) cs is)
+  in-order without E k cs is = is
 
   -- what the core has of its parameters, by what the entry has of its arguments
   module _ (κs : Lfts (suc n)) (a : Denots (rows entry-seat κs Xs)) where
@@ -149,18 +163,18 @@ module _ {n : ℕ} {S F : Solid} (O : Holds S F) (Xs : List (Arg n)) where
 module _ {n : ℕ} {S F : Solid} (O : Holds S F) (Φ : Frame n) (ls : Laid Φ) {M : Type 1} {𝓤 : URA M} {H : Heap 𝓤} {A : Atoms 𝓤} {K : Type 0} {W : Given 𝓤 H A} {Γ : List (Item 𝓤)} {C : Calls 𝓤 H} {Λ : Loops 𝓤 H} {f : Name} {p : Post 𝓤 H} {d : Place} {rest : Body} {b o : ℕ} {q : Share} where
   -- [the reference; the arguments; the field; room for the copies; the tokens; what the arguments own] before, and what is had of the arguments in the place of the last after
   pub hands : K → FmC 𝓤 H (W .laws) C → (u : Hands) (Z : Solid) (Ens : Said (Handed O (Φ .args) u) Z) → Triple 𝓤 (C f) (Core (Handed O (Φ .args) u) Z 𝓤 Ens H A) → (w : F .D) → Fits F w
-      → (κs : Lfts (suc n)) (qs : Shares n) (a : Denots (rows entry-seat κs (Φ .args))) → Fit entry-seat κs (Φ .args) a → (k : ℕ) (cs : Blocks (Copied O (Φ .args) u)) → Lie (frameAt Φ ls) k (Copied O (Φ .args) u) cs
+      → (κs : Lfts (suc n)) (qs : Shares n) (a : Denots (rows entry-seat κs (Φ .args))) → Fit entry-seat κs (Φ .args) a → (k l : ℕ) (cs : Blocks (Copied O (Φ .args) u)) → Placed O (Φ .args) u (frameAt Φ ls) k l cs
       → ((z : Z .D) (ws : Lasts entry-seat κs (Φ .args) a) → Ens (handed O (Φ .args) u w (values entry-seat κs (Φ .args) a)) z (handed-ends O (Φ .args) u w (endings entry-seat κs (Φ .args) a ws)) → Fits Z z
       → Seq K W (‵ (fat fullShare (Φ .lent) (ls .1) zero (vptr b o)) ∷ ‵ (cells (Φ .args) (ls .2) (values entry-seat κs (Φ .args) a)) ∷ ‵ (cell F q b o w) ∷ ‵ (rooms (Copied O (Φ .args) u) cs)
       ∷ raw (toks 𝓤 A n (κs .1) qs) ∷ ‵ (had κs (Φ .args) a ws) ∷ Γ) (lands C Λ (frameAt Φ ls) d (Z .val z) rest p))
       → Seq K W (‵ (fat fullShare (Φ .lent) (ls .1) zero (vptr b o)) ∷ ‵ (cells (Φ .args) (ls .2) (values entry-seat κs (Φ .args) a)) ∷ ‵ (cell F q b o w) ∷ ‵ (rooms (Copied O (Φ .args) u) cs)
-      ∷ raw (toks 𝓤 A n (κs .1) qs) ∷ ‵ (owns (rows entry-seat κs (Φ .args)) a (machines entry-seat κs (Φ .args) a)) ∷ Γ) (runs C Λ (frameAt Φ ls) (calling O (Φ .args) u k f d rest) p)
-  hands t fm with-field Z Ens known w w-fits κs qs a a-fit k cs k-at next =
+      ∷ raw (toks 𝓤 A n (κs .1) qs) ∷ ‵ (owns (rows entry-seat κs (Φ .args)) a (machines entry-seat κs (Φ .args) a)) ∷ Γ) (runs C Λ (frameAt Φ ls) (calling O (Φ .args) u k l f d rest) p)
+  hands t fm with-field Z Ens known w w-fits κs qs a a-fit k l cs lie next =
       move t (3 ∷ []) $ fsplit t $
       -- [room for the field's copy; room for the others; the reference; the arguments; the field; the tokens; what the arguments own]
-      assigns t (of-opd t (load t (from t (hop t (look t 2 refl) (fld t (place-is O) (stop t)))) (look t 4 refl))) (local-at t (k-at .1)) (init t 0 refl (F .typed 𝓤 H A W w _ w-fits .0)) $ move t (3 ∷ 1 ∷ 5 ∷ 6 ∷ []) $
-      passes-on O (Φ .args) t fm with-field Z Ens known w w-fits κs qs a a-fit (ls .2) (cs .1) (suc k) (args-at Φ ls) (lie-next (frameAt Φ ls) k (F .ty) (copies (Φ .args)) cs k-at) (λ os. and-then t (load t (local-at t (k-at .1)) (look t 3 refl)) os) (λ z ws e z-fits.
+      assigns t (of-opd t (load t (from t (hop t (look t 2 refl) (fld t (place-is O) (stop t)))) (look t 4 refl))) (local-at t (lie .0 .1)) (init t 0 refl (F .typed 𝓤 H A W w _ w-fits .0)) $ move t (3 ∷ 1 ∷ 5 ∷ 6 ∷ []) $
+      passes-on O (Φ .args) t fm with-field Z Ens known w w-fits κs qs a a-fit (ls .2) (cs .1) l (args-at Φ ls) (lie .1) (λ os. and-then t (load t (local-at t (lie .0 .1)) (look t 3 refl)) os) (λ z ws e z-fits.
       -- [the arguments; room for their copies; the tokens; what is had of them; the field's copy; the reference; the field]
       forget t 4 refl $ move t (4 ∷ 1 ∷ []) $ fjoin t $ move t (4 ∷ 1 ∷ 5 ∷ 0 ∷ 2 ∷ 3 ∷ []) $ next z ws e z-fits)
-  hands t fm without Z Ens known w w-fits κs qs a a-fit k cs k-at next =
-      move t (1 ∷ 3 ∷ 4 ∷ 5 ∷ []) $ passes-on O (Φ .args) t fm without Z Ens known w w-fits κs qs a a-fit (ls .2) cs k (args-at Φ ls) k-at (λ os. os) (λ z ws e z-fits. move t (4 ∷ 0 ∷ 5 ∷ 1 ∷ 2 ∷ 3 ∷ []) $ next z ws e z-fits)
+  hands t fm without Z Ens known w w-fits κs qs a a-fit k l cs lie next =
+      move t (1 ∷ 3 ∷ 4 ∷ 5 ∷ []) $ passes-on O (Φ .args) t fm without Z Ens known w w-fits κs qs a a-fit (ls .2) cs l (args-at Φ ls) lie (λ os. os) (λ z ws e z-fits. move t (4 ∷ 0 ∷ 5 ∷ 1 ∷ 2 ∷ 3 ∷ []) $ next z ws e z-fits)

@@ -1,2 +1,3 @@
--- The types of the entries, for the law that serves them all.
+-- The types of the entries and the functions that they call, for the laws that serve them all.
 pub mod Solids
+pub mod Cores
