@@ -24,7 +24,7 @@
 --     search cores         that this core meets a contract with this fact: `cores` lists what a crate's entries may call, once (Cores.antt of `quire32`)
 --
 -- An entry that calls another core is refused at the search: no core of that name ensures the fact. One with another clause is refused where the contract that the law gives is held to its own. The body has to be the shape's, statement by
--- statement, with `let w = self.0;` before the call or without; where it is not, the two bodies are printed side by side.
+-- statement, with `let w = self.0;` before the call or without; where it is not, the refusal says that `code.function` is another function than the law's.
 pub mod Solid
 pub mod Arg
 pub mod Locals
