@@ -36,82 +36,36 @@ fn root_of(n: u64) -> u64
     r
 }
 
-// Lines near 1/√x, for x in steps of 1/32 from 1/4 to 1. The upper half of an entry is the height where its step begins, in units of 2^-15; the lower
+// Lines near 1/√x, for x in steps of 1/32 from 1/4 to 1. The upper half of an answer is the height where the step i begins, in units of 2^-15; the lower
 // half is how far the line falls within the step, in units of 2^-18.
 fn line_of(i: u64) -> u32 {
-    if i == 8 {
-        return 0xFFD7_7521;
+    match i {
+        8 => 0xFFD7_7521,
+        9 => 0xF13D_6316,
+        10 => 0xE4E1_553F,
+        11 => 0xDA3E_4A5B,
+        12 => 0xD0F6_419A,
+        13 => 0xC8C6_3A71,
+        14 => 0xC17A_347F,
+        15 => 0xBAEC_2F7E,
+        16 => 0xB4FD_2B3D,
+        17 => 0xAF97_2795,
+        18 => 0xAAA5_246A,
+        19 => 0xA618_21A6,
+        20 => 0xA1E4_1F37,
+        21 => 0x9DFE_1D10,
+        22 => 0x9A5C_1B25,
+        23 => 0x96F8_196E,
+        24 => 0x93CA_17E4,
+        25 => 0x90CE_167F,
+        26 => 0x8DFE_153C,
+        27 => 0x8B57_1417,
+        28 => 0x88D4_130A,
+        29 => 0x8673_1214,
+        30 => 0x8431_1133,
+        31 => 0x820B_1063,
+        _ => 0,
     }
-    if i == 9 {
-        return 0xF13D_6316;
-    }
-    if i == 10 {
-        return 0xE4E1_553F;
-    }
-    if i == 11 {
-        return 0xDA3E_4A5B;
-    }
-    if i == 12 {
-        return 0xD0F6_419A;
-    }
-    if i == 13 {
-        return 0xC8C6_3A71;
-    }
-    if i == 14 {
-        return 0xC17A_347F;
-    }
-    if i == 15 {
-        return 0xBAEC_2F7E;
-    }
-    if i == 16 {
-        return 0xB4FD_2B3D;
-    }
-    if i == 17 {
-        return 0xAF97_2795;
-    }
-    if i == 18 {
-        return 0xAAA5_246A;
-    }
-    if i == 19 {
-        return 0xA618_21A6;
-    }
-    if i == 20 {
-        return 0xA1E4_1F37;
-    }
-    if i == 21 {
-        return 0x9DFE_1D10;
-    }
-    if i == 22 {
-        return 0x9A5C_1B25;
-    }
-    if i == 23 {
-        return 0x96F8_196E;
-    }
-    if i == 24 {
-        return 0x93CA_17E4;
-    }
-    if i == 25 {
-        return 0x90CE_167F;
-    }
-    if i == 26 {
-        return 0x8DFE_153C;
-    }
-    if i == 27 {
-        return 0x8B57_1417;
-    }
-    if i == 28 {
-        return 0x88D4_130A;
-    }
-    if i == 29 {
-        return 0x8673_1214;
-    }
-    if i == 30 {
-        return 0x8431_1133;
-    }
-    if i == 31 {
-        return 0x820B_1063;
-    }
-    0
 }
 
 // Near the root of n from 2^62 on. With x = n/2^64: y is 1/√x by a line, in units of 2^-31; z is a Newton step from y, in units of 2^-30; r is x·z, not
