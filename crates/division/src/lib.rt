@@ -34,8 +34,8 @@ fn div_sizes(negative: bool, a: u32, b: u32) -> u32
 {
     let x = scaled_of(a);
     let y = scaled_of(b);
-    let n = (x.significand as u64) << 32;
-    let d = y.significand as u64;
+    let n = x.significand << 32;
+    let d = y.significand;
     let q = n / d;
     let high = (q >> 32) as u32;
     pack(

@@ -26,7 +26,7 @@ pub(crate) fn term_of(p: u32) -> Term
     Term {
         negative: p > NAR,
         scale: s.scale + 904,
-        significand: (s.significand as u64) << 32,
+        significand: s.significand << 32,
     }
 }
 
@@ -44,7 +44,7 @@ fn multiplied(negative: bool, x: Scaled, y: Scaled) -> Term
     requires { ⌜ InScale (x .scale) (x .significand) × InScale (y .scale) (y .significand) ⌝ }
     ensures { λ r. ⌜ (r .negative ≡ negative) × Multiplied (x .significand * y .significand) (x .scale + y .scale) (r .scale) (r .significand) ⌝ }
 {
-    let n = (x.significand as u64) * (y.significand as u64);
+    let n = x.significand * y.significand;
     let scale = x.scale + y.scale + 784;
     if n < 0x2000_0000_0000_0000 {
         Term {

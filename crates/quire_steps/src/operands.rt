@@ -25,7 +25,7 @@ pub(crate) fn posit_of(p: P32E2) -> Operand
         nar: p.0 == NAR,
         negative: p.0 > NAR,
         shift: x.scale + 154,
-        significand: x.significand as u64,
+        significand: x.significand,
     }
 }
 
@@ -39,6 +39,6 @@ pub(crate) fn product_of(a: P32E2, b: P32E2) -> Operand
         nar: either_nar(a.0, b.0),
         negative: (a.0 > NAR) != (b.0 > NAR),
         shift: x.scale + y.scale + 4,
-        significand: (x.significand as u64) * (y.significand as u64),
+        significand: x.significand * y.significand,
     }
 }

@@ -17,7 +17,7 @@ pub fn sqrt(p: u32) -> u32
         return NAR;
     }
     let a = scaled_of(p);
-    let n = (a.significand as u64) << (32 + a.scale % 2);
+    let n = a.significand << (32 + a.scale % 2);
     let r = root_of(n);
     pack(false, a.scale / 2 + 964, r << 30, r * r < n)
 }

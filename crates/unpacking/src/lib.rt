@@ -67,6 +67,6 @@ fn real(sign: bool, b: u32) -> Unpacked
         sign,
         k: (x.scale / 4) as i32 - 30,
         e: x.scale % 4,
-        significand: x.significand,
+        significand: x.significand as u32,
     }
 }

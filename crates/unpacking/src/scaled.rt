@@ -1,6 +1,6 @@
 // A posit's size as a significand at a scale: what the arithmetic works on.
 ghost use mathlib.Core.Path.{_≡_};
-ghost use Prim.Native.Nat.{_+_};
+ghost use Prim.Native.Nat.{_+_, _*_};
 ghost use Rattle.posit.specs.Pattern.{Positive, first, run, regime, exponent, raised, least};
 ghost use Rattle.posit.proofs.Word.{behind};
 ghost use Rattle.unpacking.specs.Parts.{significand};
@@ -11,7 +11,7 @@ use super::sign_off;
 // significand·2^scale, in units of 2^-150; the leading one of the significand is at bit 30.
 pub struct Scaled {
     pub scale: u32,
-    pub significand: u32,
+    pub significand: u64,
 }
 
 // The scale and the significand of every pattern; for zero and NaR, which have none, both are 0.
@@ -40,20 +40,20 @@ pub(crate) fn to_scaled(b: u32) -> Scaled
 {
     let s = split(b);
     Scaled {
-        scale: base_of(b, s.run) + (s.behind >> 30),
-        significand: 0x4000_0000 + s.behind % 0x4000_0000,
+        scale: 4 * base_of(b, s.run) + (s.behind >> 30),
+        significand: (0x4000_0000 + s.behind % 0x4000_0000) as u64,
     }
 }
 
-// 120 + 4k, by the length m of b's run.
+// 30 + k, by the length m of b's run.
 fn base_of(b: u32, m: u32) -> u32
     requires { ⌜ Positive 31 b × (m ≡ run (first 31 b) 31 b) ⌝ }
-    ensures { λ r. ⌜ r ≡ raised 2 (least 2 31) (regime 31 b) ⌝ }
+    ensures { λ r. ⌜ 4 * r ≡ raised 2 (least 2 31) (regime 31 b) ⌝ }
 {
     if b < 0x4000_0000 {
-        120 - 4 * m
+        30 - m
     } else {
-        116 + 4 * m
+        29 + m
     }
 }
 

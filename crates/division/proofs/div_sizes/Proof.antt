@@ -78,44 +78,38 @@ scaled-of-requires c κs = search needs
 scaled-of-requires-2 : tie.Need-scaled-of-requires-2
 scaled-of-requires-2 c κs = search needs
 
-cast-n : tie.Need-cast-n
-cast-n c = search needs
-
-cast-d : tie.Need-cast-d
-cast-d c = search needs
-
 div-q : tie.Need-div-q
 div-q c =
-    let k = c .before .before in
+    let k = c .before in
     let y = divisor-scales k in
     omega arith
 
 cast-high : tie.Need-cast-high
 cast-high c =
-    let k = c .before .before in
+    let k = c .before in
     record { fits = omega (arith, high-small (dividend-scales k) (divisor-scales k)) }
 
 add-pack : tie.Need-add-pack
 add-pack c =
-    let k = c .before .before in
+    let k = c .before in
     record { fits = omega (arith, high-small (dividend-scales k) (divisor-scales k)) }
 
 add-pack-2 : tie.Need-add-pack-2
 add-pack-2 c =
-    let k = c .before .before .before in
+    let k = c .before .before in
     let x = dividend-scales k in
     record { fits = omega (arith, high-small (dividend-scales k) (divisor-scales k)) }
 
 sub-pack : tie.Need-sub-pack
 sub-pack c =
-    let k = c .before .before .before .before in
+    let k = c .before .before .before in
     let x = dividend-scales k in
     let y = divisor-scales k in
     omega arith
 
 sub-pack-2 : tie.Need-sub-pack-2
 sub-pack-2 c =
-    let k = c .before .before .before .before in
+    let k = c .before .before .before in
     omega (arith, high-small (dividend-scales k) (divisor-scales k))
 
 cast-pack : tie.Need-cast-pack
@@ -126,7 +120,7 @@ shl-pack c = search needs
 
 rem-pack : tie.Need-rem-pack
 rem-pack c =
-    let k = c .before .before .before .before in
+    let k = c .before .before .before in
     let y = divisor-scales k in
     omega arith
 
@@ -135,7 +129,7 @@ pack-requires c κs = search needs
 
 returns : tie.Need-returns
 returns c =
-    let k = c .before .before .before .before .before in
+    let k = c .before .before .before .before in
     c .pack .ensures ∙ ap (signed 31 (k .before .before .args .negative)) (rounds (dividend-scales k) (divisor-scales k))
 
 pub div-sizes-spec : {M : Type 1} → statement M
@@ -144,8 +138,6 @@ div-sizes-spec =
     (tie.spec
     scaled-of-requires
     scaled-of-requires-2
-    cast-n
-    cast-d
     div-q
     cast-high
     add-pack

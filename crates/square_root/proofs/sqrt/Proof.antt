@@ -86,9 +86,6 @@ cast-n c = search needs
 add-n : tie.Need-add-n
 add-n c = search needs
 
-cast-n-2 : tie.Need-cast-n-2
-cast-n-2 c = search needs
-
 shl-n : tie.Need-shl-n
 shl-n c = search needs
 
@@ -121,9 +118,8 @@ sqrt-spec =
     returns
     returns-2
     scaled-of-requires
-    cast-n
     add-n
-    cast-n-2
+    cast-n
     shl-n
     root-of-requires
     add-pack

@@ -4,6 +4,7 @@ use mathlib.Core.Bool.{Bool}
 use Prim.Native.Nat.{ℕ, _+_, _/_, _%_, _^_, _<_}
 use native.Mathlib.Omega.{arith}
 use borrow.Author.Needs.{needs}
+use lib.Dec.{lit<}
 use lib.IntN.{ℤ, pos, negsuc, natAbs, _-ℤ_}
 use mir.Syntax.{w32}
 use mir.Val.{SFits, toZ}
@@ -11,6 +12,7 @@ use mir.Facts.{toZ-pos, toZ-ofZ}
 use Rattle.posit.specs.Pattern.{Positive, regime, exponent, raised, least}
 use Rattle.posit.proofs.Unsigned.{regime-small, exponent-lt}
 use Rattle.unpacking.specs.Parts.{isReal}
+use Rattle.unpacking.proofs.Parts.{significand-lt}
 use Rattle.unpacking.proofs.Valued.{raised-high, regime-back, exponent-back}
 use Rattle.unpacking.proofs.real.Statement.{statement}
 use Rattle.unpacking.proofs.real.Tie as tie
@@ -44,9 +46,14 @@ cast-t5 c = let k = c .before in record { sfits = quotient-short _ _ (k .before 
 sub-t6 : tie.Need-sub-t6
 sub-t6 c = let k = c .before in regime-fits _ _ (k .before .pre) (k .to-scaled .ensures .0)
 
+cast-t8 : tie.Need-cast-t8
+cast-t8 c =
+    let k = c .before .before .before in
+    record { fits = omega (arith, k .to-scaled .ensures .1, significand-lt 2 31 (k .before .args .b) (lit< tt)) }
+
 returns : tie.Need-returns
 returns c =
-    let k = c .before .before in
+    let k = c .before .before .before in
     let scale = k .to-scaled .ensures .0 in
     same-parts
     (toZ-ofZ (regime-fits _ _ (k .before .pre) scale) ∙ regime-is _ _ (k .before .pre) scale)
@@ -54,4 +61,4 @@ returns c =
     (k .to-scaled .ensures .1)
 
 pub real-spec : {M : Type 1} → statement M
-real-spec = tie.close (tie.spec to-scaled-requires cast-t5 sub-t6 returns)
+real-spec = tie.close (tie.spec to-scaled-requires cast-t5 sub-t6 cast-t8 returns)

@@ -14,12 +14,6 @@ use Rattle.exact_terms.proofs.terms.multiplied.Tie as tie
 up : (n d l c : ℕ) → l + c ≡ d + 786 → n * 2 ^ l < 2 ^ 64 → Normal c (n * 2 ^ l) → Multiplied n d c (n * 2 ^ l % 2 ^ 64)
 up n d l c e h k = subst (Multiplied n d c) (sym (mod-eq-of-lt h)) (record { same = same-power n l c d 786 e; normal = k })
 
-cast-n : tie.Need-cast-n
-cast-n c = search needs
-
-cast-n-2 : tie.Need-cast-n-2
-cast-n-2 c = search needs
-
 mul-n : tie.Need-mul-n
 mul-n c =
     let a = c .before .before in
@@ -51,4 +45,4 @@ returns-2 c =
     (refl, up (x .significand * y .significand) (x .scale + y .scale) 1 (x .scale + y .scale + 784 + 1) (omega arith) (omega arith) (omega arith))
 
 pub multiplied-spec : {M : Type 1} → statement M
-multiplied-spec = tie.close (tie.spec cast-n cast-n-2 mul-n add-scale add-scale-2 add-next returns returns-2)
+multiplied-spec = tie.close (tie.spec mul-n add-scale add-scale-2 add-next returns returns-2)

@@ -17,9 +17,6 @@ scaled-of-requires c κs = search needs
 add-t4 : tie.Need-add-t4
 add-t4 c = let s = c .before .scaled-of .ensures .of-real (c .before .before .pre) in record { fits = omega arith }
 
-cast-t5 : tie.Need-cast-t5
-cast-t5 c = search needs
-
 returns : tie.Need-returns
 returns c =
     let k = c .before .before in
@@ -31,4 +28,4 @@ returns c =
     (posit-term (a .args .p) (s .scale) (s .significand) (omega arith) (a .pre) (k .scaled-of .ensures))
 
 pub term-of-spec : {M : Type 1} → statement M
-term-of-spec = tie.close (tie.spec scaled-of-requires add-t4 cast-t5 returns)
+term-of-spec = tie.close (tie.spec scaled-of-requires add-t4 returns)

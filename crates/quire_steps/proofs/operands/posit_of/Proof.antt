@@ -12,15 +12,12 @@ scaled-of-requires c κs = search needs
 add-t5 : tie.Need-add-t5
 add-t5 c = let x = c .before .before .before .scaled-of in record { fits = omega (arith, scaled-below _ (x .result .scale) (x .result .significand) (x .ensures) .0) }
 
-cast-t6 : tie.Need-cast-t6
-cast-t6 c = search needs
-
 returns : tie.Need-returns
 returns c =
-    let k = c .before .before .before .before in
+    let k = c .before .before .before in
     let p = k .before .args .p .0 in
     let x = k .scaled-of .result in
     (omega (arith, scaled-below p (x .scale) (x .significand) (k .scaled-of .ensures) .0), posit-brought p (x .scale) (x .significand) (omega arith) (k .scaled-of .ensures))
 
 pub posit-of-spec : {M : Type 1} → statement M
-posit-of-spec = tie.close (tie.spec scaled-of-requires add-t5 cast-t6 returns)
+posit-of-spec = tie.close (tie.spec scaled-of-requires add-t5 returns)

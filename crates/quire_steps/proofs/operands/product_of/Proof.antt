@@ -30,14 +30,8 @@ add-t9 c = record { fits = omega (arith, scales-below (c .before .before .before
 add-t10 : tie.Need-add-t10
 add-t10 c = record { fits = omega (arith, scales-below (c .before .before .before .before .before)) }
 
-cast-t11 : tie.Need-cast-t11
-cast-t11 c = search needs
-
-cast-t12 : tie.Need-cast-t12
-cast-t12 c = search needs
-
-mul-t13 : tie.Need-mul-t13
-mul-t13 c = record { fits = omega (arith, product-below (c .before .before .before .before .before .before .before)) }
+mul-t11 : tie.Need-mul-t11
+mul-t11 c = record { fits = omega (arith, product-below (c .before .before .before .before .before .before .before)) }
 
 returns : tie.Need-returns
 returns c =
@@ -60,7 +54,5 @@ product-of-spec =
     either-nar-requires
     add-t9
     add-t10
-    cast-t11
-    cast-t12
-    mul-t13
+    mul-t11
     returns)

@@ -10,9 +10,9 @@ use Rattle.posit.proofs.Unsigned.{regime-small}
 use Rattle.unpacking.proofs.scaled.base_of.Statement.{statement}
 use Rattle.unpacking.proofs.scaled.base_of.Tie as tie
 
-zeros-base : (m : ℕ) → 120 - 4 * m ≡ raised 2 (least 2 31) (negℤ (pos m))
-zeros-base zero = refl
-zeros-base (suc m) = refl
+zeros-base : (m : ℕ) → m < 31 → 4 * (30 - m) ≡ raised 2 (least 2 31) (negℤ (pos m))
+zeros-base zero h = refl
+zeros-base (suc m) h = omega arith
 
 zeros-short : (m : ℕ) → natAbs (negℤ (pos m)) < 31 → m < 31
 zeros-short zero h = h
@@ -35,14 +35,8 @@ module _ (b m : ℕ) (k : Positive 31 b) (is : m ≡ run (first 31 b) 31 b) wher
   short : b < 2 ^ 30 → m < 31
   short h = zeros-short m (rw (of-zeros h) (regime-small 31 b k))
 
-mul-result : tie.Need-mul-result
-mul-result c = let k = some _ _ (c .before .pre .0) (c .before .pre .1) in omega arith
-
 sub-result : tie.Need-sub-result
 sub-result c = let k = short _ _ (c .before .pre .0) (c .before .pre .1) (omega arith) in omega arith
-
-mul-result-2 : tie.Need-mul-result-2
-mul-result-2 c = let k = some _ _ (c .before .pre .0) (c .before .pre .1) in omega arith
 
 add-result : tie.Need-add-result
 add-result c = let k = some _ _ (c .before .pre .0) (c .before .pre .1) in omega arith
@@ -50,14 +44,14 @@ add-result c = let k = some _ _ (c .before .pre .0) (c .before .pre .1) in omega
 returns : tie.Need-returns
 returns c =
     let a = c .before .args in
-    zeros-base (a .m) ∙ ap (raised 2 (least 2 31)) (of-zeros _ _ (c .before .pre .0) (c .before .pre .1) (omega arith))
+    zeros-base (a .m) (short _ _ (c .before .pre .0) (c .before .pre .1) (omega arith)) ∙ ap (raised 2 (least 2 31)) (of-zeros _ _ (c .before .pre .0) (c .before .pre .1) (omega arith))
 
 returns-2 : tie.Need-returns-2
 returns-2 c =
     let a = c .before .args in
     let k = some _ _ (c .before .pre .0) (c .before .pre .1) in
-    let base : 116 + 4 * a .m ≡ raised 2 (least 2 31) (pos (a .m - 1)) = omega arith in
+    let base : 4 * (29 + a .m) ≡ raised 2 (least 2 31) (pos (a .m - 1)) = omega arith in
     base ∙ ap (raised 2 (least 2 31)) (of-ones _ _ (c .before .pre .0) (c .before .pre .1) (omega arith))
 
 pub base-of-spec : {M : Type 1} → statement M
-base-of-spec = tie.close (tie.spec mul-result sub-result mul-result-2 add-result returns returns-2)
+base-of-spec = tie.close (tie.spec sub-result add-result returns returns-2)
