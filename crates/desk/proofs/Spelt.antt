@@ -15,12 +15,11 @@ use lib.Pow.{pow-pos, pow-add}
 use lib.Seq.{ext-getD, getD-set-same, getD-set-other}
 use Rattle.posit.specs.Digits.{digits, number, Below}
 use Rattle.posit.specs.Accumulator.{State, bitsOf, image, words, fromWords}
-use Rattle.posit.proofs.Arith.{pow-sum}
+use Rattle.posit.proofs.Arith.{pow-sum, pow-mul}
 use Rattle.posit.proofs.Digits.{length-digits, digits-number}
 use Rattle.posit.proofs.State.{bits-state, read-words}
 use Rattle.quire_words.specs.Words.{wide}
 use Rattle.quire_words.proofs.Places.{words-typed}
-use Rattle.quire_steps.proofs.Moved.{pow-mul}
 
 -- ---- the digit at a place
 

@@ -15,7 +15,8 @@ use Rattle.posit.specs.Accumulator.{State, clear, plus, ofProduct, words, fromW
 use Rattle.desk.specs.Batch.{batch}
 use Rattle.quire_words.specs.Words.{wide}
 use Rattle.quire_words.proofs.Places.{number-none, number-drop}
-use Rattle.quire_steps.proofs.Moved.{pow-mul, set-adds}
+use Rattle.quire_steps.proofs.Moved.{set-adds}
+use Rattle.posit.proofs.Arith.{pow-mul}
 use Rattle.posit.proofs.State.{Held, words-read}
 use Rattle.quire_steps.proofs.Words.{zeroWords, read-zero}
 use Rattle.quire_steps.proofs.Kept.{plus-read, plus-held}

@@ -8,10 +8,10 @@ use native.Mathlib.Omega.{arith}
 use borrow.Author.Tests.{lt-ltb, le-ltb}
 use lib.Dec.{ltb}
 use lib.Pow.{pow-pos, pow-add}
-use Rattle.posit.specs.Exact.{Exact, whole, ratio, Sound, above, AtLeast, Under}
+use Rattle.posit.specs.Exact.{Exact, whole, ratio, Sound, above, Under}
 use Rattle.posit.specs.Rounding.{round}
 use Rattle.posit.proofs.Arith.{pow-sum}
-use Rattle.posit.proofs.Compare.{ltb-factor}
+use Rattle.posit.proofs.Compare.{AtLeast, ltb-factor}
 use Rattle.rounding.specs.Packed.{packedSize}
 use Rattle.rounding.proofs.Packed.{significand-stands-for}
 

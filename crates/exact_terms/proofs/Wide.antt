@@ -10,10 +10,10 @@ use borrow.Author.Tests.{lt-ltb, ltb-false}
 use lib.Count.{leadingZeros, leading-top}
 use lib.Dec.{ltb, lit≤}
 use lib.Pow.{pow-pos, pow-mono}
-use Rattle.posit.specs.Exact.{Exact, whole, Sound, bound, told, above, AtLeast, Under}
+use Rattle.posit.specs.Exact.{Exact, whole, Sound, bound, told, above, Under}
 use Rattle.posit.specs.Rounding.{round}
 use Rattle.posit.proofs.Arith.{pow-sum}
-use Rattle.posit.proofs.Compare.{told-lt, told-le}
+use Rattle.posit.proofs.Compare.{AtLeast, told-lt, told-le}
 use Rattle.rounding.specs.Packed.{asDigit, packedSize}
 use Rattle.exact_terms.specs.Sums.{Near}
 use Rattle.rounding.proofs.Packed.{significand-stands-for}

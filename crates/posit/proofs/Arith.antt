@@ -1,7 +1,7 @@
 -- Facts on numbers that several files need: remainders of products, sums of powers, one less than the next.
 use mathlib.Core.Path.{_≡_, sym, ap, _∙_}
-use Prim.Native.Nat.{ℕ, suc, _+_, _-_, _*_, _%_, _^_, _<_}
-use native.Mathlib.Nat.{add-zero, mul-comm, mul-assoc, mul-div-cancel, mul-mod-left}
+use Prim.Native.Nat.{ℕ, zero, suc, _+_, _-_, _*_, _%_, _^_, _<_}
+use native.Mathlib.Nat.{add-zero, mul-comm, mul-assoc, mul-div-cancel, mul-mod-left, mul-zero, mul-suc, pow-zero, pow-suc}
 use native.Mathlib.Omega.{arith}
 use lib.Arith.{mod-mul}
 use lib.Pow.{pow-add}
@@ -17,6 +17,10 @@ mul-mod-mul-left a {m} {c} h k = rw (mul-comm c a, mul-comm c m, mul-comm c (a %
 
 pub pow-sum : (a b c : ℕ) → a + b ≡ c → 2 ^ a * 2 ^ b ≡ 2 ^ c
 pow-sum a b c e = sym (pow-add 2 a b) ∙ ap (λ (k : ℕ). 2 ^ k) e
+
+pub pow-mul : (m n : ℕ) → 2 ^ (m * n) ≡ (2 ^ m) ^ n
+pow-mul m zero = rw (mul-zero, pow-zero 2, pow-zero (2 ^ m))
+pow-mul m (suc n) = rw (mul-suc, pow-add, pow-mul m n, pow-suc)
 
 -- digits move from one power to the other
 pub same-power : (z a b c d : ℕ) → a + b ≡ c + d → z * 2 ^ a * 2 ^ b ≡ z * 2 ^ c * 2 ^ d

@@ -7,9 +7,9 @@ use native.Mathlib.Decide.{decLt}
 use native.Mathlib.Omega.{arith}
 use borrow.Author.Tests.{le-leb, lt-leb}
 use Rattle.posit.specs.Pattern.{size, least}
-use Rattle.posit.specs.Exact.{Exact, Sound, bound, told, AtLeast, Under}
+use Rattle.posit.specs.Exact.{Exact, Sound, bound, told, Under}
 use Rattle.posit.specs.Rounding.{search-down, below}
-use Rattle.posit.proofs.Compare.{told-le}
+use Rattle.posit.proofs.Compare.{AtLeast, told-le}
 use Rattle.posit.proofs.Size.{size-le}
 
 -- x is at least p's size, unless p is 0, and under the next one's, unless there is none

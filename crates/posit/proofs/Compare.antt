@@ -1,14 +1,25 @@
--- What a size is compared with grows with the number of units, whichever way it is told; and a finer unit changes no comparison.
+-- What a size is compared with grows with the number of units, whichever way it is told; and a finer unit changes no comparison. `Counts` says how many whole units a
+-- size has, and whether there is more: how every operation tells what it has found before it is rounded.
 use mathlib.Core.Path.{_≡_, refl, sym, ap, _∙_}
-use mathlib.Core.Bool.{not}
-use Prim.Native.Nat.{ℕ, _*_, _^_, _≤_, _<_}
-use native.Mathlib.Nat.{le-of-lt, lt-of-le-of-lt, mul-le-mul-right, mul-le-mul-left, mul-lt-mul-of-pos-right, mul-pos}
+use mathlib.Core.Bool.{Bool, not}
+use Prim.Native.Nat.{ℕ, suc, _*_, _^_, _≤_, _<_}
+use native.Mathlib.Nat.{le-of-lt, lt-of-le-of-lt, mul-le-mul-right, mul-le-mul-left, mul-lt-mul-of-pos-right, mul-assoc, mul-pos}
 use native.Mathlib.Decide.{decLt}
 use native.Mathlib.Omega.{arith}
 use lib.Dec.{leb, ltb}
 use lib.Pow.{pow-pos}
 use borrow.Author.Tests.{lt-ltb, le-ltb, le-leb, lt-leb}
-use Rattle.posit.specs.Exact.{Exact, whole, ratio, root, Sound, bound, told, atLeast, above, AtLeast, Under}
+use Rattle.posit.specs.Exact.{Exact, whole, ratio, root, Sound, bound, told, atLeast, above, Under}
+
+-- v units or more, as a fact
+abbrev pub AtLeast : Exact → ℕ → Type 0
+AtLeast x v = told x v ≤ bound x
+
+-- x is n whole units and less than one more, and above them just where `more` says so
+pub record Counts (x : Exact) (n unit : ℕ) (more : Bool) : Type 0 where
+  pub low : AtLeast x (n * unit)
+  pub high : Under x (suc n * unit)
+  pub seen : above x (n * unit) ≡ more
 
 module _ (x : Exact) (sound : Sound x) where
   pub told-lt : {v z : ℕ} → v < z → told x v < told x z
@@ -58,6 +69,14 @@ ltb-leb a b = go (decLt a b)
 
 pub ltb-factor : (a b c : ℕ) → 0 < c → ltb (a * c) (b * c) ≡ ltb a b
 ltb-factor a b c h = ltb-leb (a * c) (b * c) ∙ ap not (leb-factor b a c h) ∙ sym (ltb-leb a b)
+
+pub counts-times : {M n D : ℕ} {more : Bool} (P : ℕ) → 0 < P → Counts (whole M) n D more → Counts (whole (M * P)) n (D * P) more
+counts-times {M} {n} {D} P z c =
+    record {
+      low = rw (← mul-assoc n D P) (mul-le-mul-right P (c .low));
+      high = rw (← mul-assoc (suc n) D P) (mul-lt-mul-of-pos-right (c .high) z);
+      seen = rw (← mul-assoc n D P) (ltb-factor (n * D) M P z ∙ c .seen);
+    }
 
 -- both sides of the comparison grow by one factor above 0
 factor : ℕ → Exact → ℕ

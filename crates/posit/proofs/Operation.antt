@@ -4,7 +4,7 @@ use mathlib.Core.Path.{_≡_, refl, sym, ap, ap₂, _∙_}
 use mathlib.Core.Logic.{_≢_}
 use mathlib.Core.Bool.{Bool, true, false, _||_, or-true, true≢false}
 use Prim.Native.Nat.{ℕ, zero, suc, _+_, _-_, _^_, _≤_, _<_}
-use native.Mathlib.Nat.{sub-zero, mod-self, pow-suc, mul-add, mul-le-mul-left}
+use native.Mathlib.Nat.{sub-zero, mod-self, pow-suc}
 use native.Mathlib.Decide.{decLt, ℕ-discrete}
 use native.Mathlib.Omega.{arith}
 use borrow.Author.Tests.{eq-eqb, ne-eqb}
@@ -12,9 +12,10 @@ use lib.Arith.{lt-of-le-ne}
 use lib.Dec.{eqb}
 use lib.IntN.{ℤ, pos, negℤ, _+ℤ_, _-ℤ_, _*ℤ_, negℤ-negℤ, +ℤ-idl, +ℤ-idr, +ℤ-comm, zero-*ℤ, *ℤ-zero}
 use lib.Pow.{pow-pos}
-use Rattle.posit.specs.Pattern.{nar, opposite, size, value, least, unit}
+use Rattle.posit.specs.Pattern.{nar, opposite, size, value, unit}
 use Rattle.posit.specs.Operation.{unlessNar, exact, exactProduct, roundedHere, sum, difference, product, quotient, fusedSum, fusedDifference, productTaken}
 use Rattle.posit.proofs.Signs.{negated-product}
+use Rattle.posit.proofs.Rounding.{unit-fine}
 use Rattle.posit.proofs.Value.{opposite-is, opposite-twice, opposite-positive, value-zero, value-positive, value-negative, rounded-own}
 
 -- ---- the opposite of a pattern has the opposite value
@@ -194,12 +195,9 @@ module _ (es w : ℕ) where
   -- ---- a zero operand: the other one is the answer, since its own value is rounded to it
 
   module _ (wide : 1 < w) where
-    fine : least es (suc w) ≤ unit es w
-    fine = let more : suc w - 1 ≤ (w - 1) + (w - 1) = omega arith in omega (arith, mul-le-mul-left (2 ^ es) more, mul-add (2 ^ es) (w - 1) (w - 1))
-
     pub own : (p : ℕ) → p < 2 ^ suc w → p ≢ nar w → roundedHere es w (exact es w p) ≡ p
     unfolding exact
-    own p k n = rounded-own es w (unit es w) (omega arith) fine p k n
+    own p k n = rounded-own es w (unit es w) (omega arith) (unit-fine es w wide) p k n
 
     pub zero-plus : {z : ℤ} → z ≡ pos 0 → (p : ℕ) → p < 2 ^ suc w → p ≢ nar w → roundedHere es w (z +ℤ exact es w p) ≡ p
     zero-plus e p k n = ap (λ (x : ℤ). roundedHere es w (x +ℤ exact es w p)) e ∙ ap (roundedHere es w) (+ℤ-idl (exact es w p)) ∙ own p k n

@@ -11,7 +11,8 @@ use lib.Dec.{ltb}
 use lib.Arith.{digits-lt, digits-div, digits-mod}
 use lib.Pow.{pow-pos, pow-add}
 use Rattle.posit.specs.Pattern.{size, least}
-use Rattle.posit.specs.Exact.{Exact, Sound, above, AtLeast, Under}
+use Rattle.posit.specs.Exact.{Exact, Sound}
+use Rattle.posit.proofs.Compare.{Counts}
 use Rattle.posit.specs.Rounding.{round}
 use Rattle.posit.proofs.Arith.{mul-mod-mul, pow-sum}
 use Rattle.posit.proofs.Tail.{tail}
@@ -64,13 +65,8 @@ module _ (o : Bool) (m l j t : ℕ) (h : j ≤ l) where
   pub built-rest : built o m l t % 2 ^ j ≡ t % 2 ^ j
   built-rest = rw prefixed (mul-add-mod-self-right (built o m 0 0 * 2 ^ (l - j)) (2 ^ j) t)
 
--- x lies from (2 ^ n + f) * 2 ^ a up to the next such number
-pub record Spans (x : Exact) (n f a : ℕ) : Type 0 where
-  pub low : AtLeast x ((2 ^ n + f) * 2 ^ a)
-  pub high : Under x ((2 ^ n + suc f) * 2 ^ a)
-
 module _ (es w j u : ℕ) (o : Bool) (m n e f : ℕ) (width : suc m + suc (es + n) ≡ suc w + j) (fine : least es (suc m + suc (es + n)) ≤ u)
-    (he : e < 2 ^ es) (hf : f < 2 ^ n) (x : Exact) (spans : Spans x n f (scale es u o m + e - n)) where
+    (he : e < 2 ^ es) (hf : f < 2 ^ n) (x : Exact) (more : Bool) (counts : Counts x (2 ^ n + f) (2 ^ (scale es u o m + e - n)) more) where
   room : es + n ≤ scale es u o m
   room = digits-fit es u o m (es + n) fine
 
@@ -78,24 +74,27 @@ module _ (es w j u : ℕ) (o : Bool) (m n e f : ℕ) (width : suc m + suc (es + 
   unfolding scale
   long-size = size-built o (es + n) (e * 2 ^ n + f) (parts-below es n e f he hf) m es u ∙ tail-parts es (scale es u o m) n e f room hf
 
-  spans-brackets : Brackets es (suc m + suc (es + n)) u x (built o (suc m) (es + n) (e * 2 ^ n + f))
-  spans-brackets =
+  next-significand : 2 ^ n + suc f ≡ suc (2 ^ n + f)
+  next-significand = omega arith
+
+  counts-brackets : Brackets es (suc m + suc (es + n)) u x (built o (suc m) (es + n) (e * 2 ^ n + f))
+  counts-brackets =
       record {
         short = built-lt o (es + n) (e * 2 ^ n + f) (parts-below es n e f he hf) (suc m);
-        low = λ _. rw long-size (spans .low);
+        low = λ _. rw long-size (counts .low);
         high = λ _.
-            rw (next-built es u o m (es + n) (e * 2 ^ n + f) (parts-below es n e f he hf) fine ∙ tail-parts-next es (scale es u o m) n e f room hf)
-            (spans .high);
+            rw (next-built es u o m (es + n) (e * 2 ^ n + f) (parts-below es n e f he hf) fine ∙ tail-parts-next es (scale es u o m) n e f room hf, next-significand)
+            (counts .high);
       }
 
   pub packed : Sound x → 0 < w
       → round es w u x
       ≡ clamped w
       (halfEven (built o (suc m) (es + n) (e * 2 ^ n + f) / 2 ^ j)
-      (above x ((2 ^ n + f) * 2 ^ (scale es u o m + e - n)) || ltb 0 (built o (suc m) (es + n) (e * 2 ^ n + f) % 2 ^ j)))
+      (more || ltb 0 (built o (suc m) (es + n) (e * 2 ^ n + f) % 2 ^ j)))
   packed sound v =
-      rw (← long-size, width)
-      (long-pattern es w j u (rw width at fine) v x sound (built o (suc m) (es + n) (e * 2 ^ n + f)) (rw width at spans-brackets))
+      rw (← counts .seen, ← long-size, width)
+      (long-pattern es w j u (rw width at fine) v x sound (built o (suc m) (es + n) (e * 2 ^ n + f)) (rw width at counts-brackets))
 
 -- ---- digits 0 behind the last one that is known
 

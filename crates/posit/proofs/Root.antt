@@ -13,7 +13,7 @@ use Rattle.posit.specs.Rounding.{round}
 use Rattle.posit.specs.Operation.{squareRoot}
 use Rattle.posit.proofs.Arith.{same-power}
 use Rattle.posit.proofs.Size.{size-by-least, size-positive}
-use Rattle.posit.proofs.Rounding.{fine-here}
+use Rattle.posit.proofs.Rounding.{unit-fine, fine-here}
 use Rattle.posit.proofs.Unit.{round-finer}
 
 pub same-powers : (z u i j n : ℕ) → u + (i + i) ≡ j + n → z * 2 ^ u * (2 ^ i * 2 ^ i) ≡ z * 2 ^ j * 2 ^ n
@@ -40,7 +40,7 @@ module _ (es w a : ℕ) where
 
     module _ (v : 2 ≤ w) where
       fine : least es (suc w) ≤ unit es w
-      fine = omega (arith, mul-le-mul-left {m = suc w - 1} {n = 2 * (w - 1)} (2 ^ es) (omega arith))
+      fine = unit-fine es w v
 
       wide : least es w ≤ unit es w
       wide = fine-here es w (unit es w) fine

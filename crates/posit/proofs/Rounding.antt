@@ -8,7 +8,7 @@ use native.Mathlib.Decide.{decLt, ℕ-discrete}
 use native.Mathlib.Omega.{arith}
 use borrow.Author.Tests.{lt-ltb, le-ltb, le-leb, lt-leb, eq-eqb, ne-eqb}
 use lib.Pow.{pow-pos, pow-mono}
-use Rattle.posit.specs.Pattern.{Positive, size, least}
+use Rattle.posit.specs.Pattern.{Positive, size, least, unit}
 use Rattle.posit.specs.Exact.{Exact, Sound, bound, told, Above, Under, Just}
 use Rattle.posit.specs.Rounding.{cut, below, nearer, round, Between, Down, Rounds, itself, largest, smallest, lower, upper}
 use Rattle.posit.proofs.Compare.{told-lt, told-lt-back}
@@ -23,6 +23,10 @@ by-order {A} a b f g h = go (decLt a b) (decLt b a)
     go (yes p) q = f p
     go (no p) (yes q) = h q
     go (no p) (no q) = g (omega arith)
+
+-- the unit of the definitions is fine enough for the posit one digit longer
+pub unit-fine : (es w : ℕ) → 2 ≤ w → least es (suc w) ≤ unit es w
+unit-fine es w v = omega (arith, mul-le-mul-left {m = suc w - 1} {n = 2 * (w - 1)} (2 ^ es) (omega arith))
 
 module _ (es w u : ℕ) (fine : least es (suc w) ≤ u) where
   pub fine-here : least es w ≤ u

@@ -1,16 +1,11 @@
 -- The bench sheet's first twelve cases, as instances of the definitions at P32E2, in one table under one claim that the checker computes.
-use mathlib.Core.Bool.{Bool, true, false}
 use mathlib.Core.List.{List, [], _∷_}
-use Prim.Native.Nat.{ℕ}
 use lib.Dec.{T}
+use mir.Val.{boolByte}
 use Rattle.posit.specs.Operation.{sum, product, quotient, squareRoot, fusedSum, fusedDifference}
 use Rattle.posit.proofs.Computing.{everything}
 use Rattle.posit.specs.Accumulator.{clear, isClear, plus, ofProduct, words}
 use Rattle.posit.proofs.Table.{Case, is, are, holds}
-
-abbrev toNumber : Bool → ℕ
-toNumber true = 1
-toNumber false = 0
 
 sheet : List Case
 unfolding everything
@@ -34,7 +29,7 @@ sheet =
     ∷ is (fusedDifference 2 31 0x40000000 0x40000000 0x40000000) 0
     -- 12: a total of which only word 6 is not 0, and which is not zero
     ∷ are (words 512 (plus 512 clear (ofProduct 2 31 0x100 0x100))) (0 ∷ 0 ∷ 0 ∷ 0 ∷ 0 ∷ 0 ∷ 1 ∷ 0 ∷ [])
-    ∷ is (toNumber (isClear (plus 512 clear (ofProduct 2 31 0x100 0x100)))) 0
+    ∷ is (boolByte (isClear (plus 512 clear (ofProduct 2 31 0x100 0x100)))) 0
     ∷ []
 
 sheet-holds : T (holds sheet)

@@ -2,7 +2,7 @@
 -- whole number v of units: a quotient by cross multiplication, a root by comparing squares.
 use mathlib.Core.Bool.{Bool}
 use mathlib.Core.Path.{_≡_}
-use Prim.Native.Nat.{ℕ, _*_, _≤_, _<_}
+use Prim.Native.Nat.{ℕ, _*_, _<_}
 use lib.Dec.{leb, ltb}
 
 -- x units; x / y units; the number of units whose square is x
@@ -35,10 +35,7 @@ atLeast x v = leb (told x v) (bound x)
 abbrev pub above : Exact → ℕ → Bool
 above x v = ltb (told x v) (bound x)
 
--- and as facts, with fewer than v units and just v units
-abbrev pub AtLeast : Exact → ℕ → Type 0
-AtLeast x v = told x v ≤ bound x
-
+-- more than v units, fewer, and just v units: as facts
 abbrev pub Above : Exact → ℕ → Type 0
 Above x v = told x v < bound x
 

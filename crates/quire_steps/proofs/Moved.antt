@@ -11,12 +11,8 @@ use lib.Pow.{pow-pos, pow-add, pow-lt, shr-shr}
 use lib.ListN.{length, getD, set, length-set, replicate, length-replicate, getD-replicate}
 use lib.Seq.{getD-set-other}
 use Rattle.posit.specs.Digits.{number}
-use Rattle.posit.proofs.Arith.{pow-sum}
+use Rattle.posit.proofs.Arith.{pow-sum, pow-mul}
 use Rattle.quire_words.proofs.Operand.{turned}
-
-pub pow-mul : (m n : ℕ) → 2 ^ (m * n) ≡ (2 ^ m) ^ n
-pow-mul m zero = rw (mul-zero, pow-zero 2, pow-zero (2 ^ m))
-pow-mul m (suc n) = rw (mul-suc, pow-add, pow-mul m n, pow-suc)
 
 sub-one-mul : (B P : ℕ) → 0 < B → (B - 1 - 0) * P + P ≡ B * P
 sub-one-mul B P p =

@@ -12,8 +12,8 @@ use lib.Dec.{ltb, lit<, lit≤}
 use lib.ListN.{length, getD, drop, List·getD-eq-default}
 use lib.Pow.{pow-pos, pow-add}
 use Rattle.posit.specs.Digits.{Below}
-use Rattle.posit.proofs.Arith.{pow-sum, mul-mod-mul}
-use Rattle.quire_steps.proofs.Moved.{pow-mul, moved-down}
+use Rattle.posit.proofs.Arith.{pow-sum, mul-mod-mul, pow-mul}
+use Rattle.quire_steps.proofs.Moved.{moved-down}
 use Rattle.quire_words.proofs.Places.{number-none, number-drop, number-drop-lt, below-at}
 use Rattle.quire_words.specs.Words.{wide}
 use Rattle.quire_totals.specs.Leading.{Leads}

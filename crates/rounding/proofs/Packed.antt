@@ -10,12 +10,12 @@ use borrow.Author.Tests.{lt-ltb, le-ltb, le-leb, lt-leb}
 use lib.Dec.{leb, ltb, lit<, lit≤}
 use lib.Pow.{pow-pos, pow-mono, shr-lt}
 use Rattle.posit.specs.Pattern.{size, least}
-use Rattle.posit.specs.Exact.{Exact, whole, Sound, above, AtLeast, Under}
+use Rattle.posit.specs.Exact.{Exact, whole, Sound, above, Under}
 use Rattle.posit.specs.Rounding.{round}
 use Rattle.posit.proofs.Arith.{pow-sum}
 use Rattle.posit.proofs.Built.{built}
 use Rattle.posit.proofs.Size.{scale, scale-ones, scale-zeros, smallest-size, largest-size, ones-double, one-built}
-use Rattle.posit.proofs.Compare.{told-le}
+use Rattle.posit.proofs.Compare.{AtLeast, told-le}
 use Rattle.posit.proofs.Rounding.{at-none, at-last}
 use Rattle.posit.proofs.LongPattern.{halfEven, clamped}
 use Rattle.posit.proofs.Packing.{Spans, packed, built-kept, built-rest, spare-kept, spare-rest, inside}
