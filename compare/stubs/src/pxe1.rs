@@ -1,4 +1,4 @@
-// A stub: src/pxe1.rs is not among the source files here. Just enough for them to compile.
+// A stub: src/pxe1.rs is not among the files of softposit.sha256. Just enough for them to compile.
 #[derive(Clone, Copy)]
 pub struct PxE1<const N: u32>(i32);
 impl<const N: u32> PxE1<N> {

@@ -20,39 +20,35 @@ fn main() {
 fn add(a: u32, b: u32) -> u32
     ensures { λ r. ⌜ r ≡ sum 2 31 a b ⌝ }
 {
-    P32E2::from_bits(a).add(P32E2::from_bits(b)).to_bits()
+    P32E2(a).add(P32E2(b)).to_bits()
 }
 
 fn mul(a: u32, b: u32) -> u32
     ensures { λ r. ⌜ r ≡ product 2 31 a b ⌝ }
 {
-    P32E2::from_bits(a).mul(P32E2::from_bits(b)).to_bits()
+    P32E2(a).mul(P32E2(b)).to_bits()
 }
 
 fn div(a: u32, b: u32) -> u32
     ensures { λ r. ⌜ r ≡ quotient 2 31 a b ⌝ }
 {
-    P32E2::from_bits(a).div(P32E2::from_bits(b)).to_bits()
+    P32E2(a).div(P32E2(b)).to_bits()
 }
 
 fn sqrt(a: u32) -> u32
     ensures { λ r. ⌜ r ≡ squareRoot 2 31 a ⌝ }
 {
-    P32E2::from_bits(a).sqrt().to_bits()
+    P32E2(a).sqrt().to_bits()
 }
 
 fn mul_add(a: u32, b: u32, c: u32) -> u32
     ensures { λ r. ⌜ r ≡ fusedSum 2 31 a b c ⌝ }
 {
-    P32E2::from_bits(a)
-        .mul_add(P32E2::from_bits(b), P32E2::from_bits(c))
-        .to_bits()
+    P32E2(a).mul_add(P32E2(b), P32E2(c)).to_bits()
 }
 
 fn mul_sub(a: u32, b: u32, c: u32) -> u32
     ensures { λ r. ⌜ r ≡ fusedDifference 2 31 a b c ⌝ }
 {
-    P32E2::from_bits(a)
-        .mul_sub(P32E2::from_bits(b), P32E2::from_bits(c))
-        .to_bits()
+    P32E2(a).mul_sub(P32E2(b), P32E2(c)).to_bits()
 }

@@ -1,4 +1,4 @@
-// A stub: src/p16e1/convert.rs is not among the source files here. Never called by the comparison
+// A stub: src/p16e1/convert.rs is not among the files of softposit.sha256. Never called by the comparison
 // (from_f64 answers a constant so that the MathConsts of macros.rs can be evaluated).
 use super::P16E1;
 crate::macros::impl_convert!(P16E1);

@@ -1,4 +1,4 @@
-// A stub: src/p16e1/math.rs is not among the source files here. Never called by the comparison.
+// A stub: src/p16e1/math.rs is not among the files of softposit.sha256. Never called by the comparison.
 use super::P16E1;
 macro_rules! one { ($($f:ident),*) => { $( pub fn $f(self) -> Self { unimplemented!() } )* } }
 impl P16E1 {

@@ -1,4 +1,4 @@
-// A stub: src/p8e0/math.rs is not among the source files here. Never called by the comparison.
+// A stub: src/p8e0/math.rs is not among the files of softposit.sha256. Never called by the comparison.
 use super::P8E0;
 macro_rules! one { ($($f:ident),*) => { $( pub fn $f(self) -> Self { unimplemented!() } )* } }
 impl P8E0 {

@@ -1,1 +1,1 @@
-// A stub: src/quire16/math.rs is not among the source files here.
+// A stub: src/quire16/math.rs is not among the files of softposit.sha256.

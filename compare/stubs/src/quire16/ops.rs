@@ -1,4 +1,4 @@
-// A stub: src/quire16/ops.rs is not among the source files here. Never called by the comparison.
+// A stub: src/quire16/ops.rs is not among the files of softposit.sha256. Never called by the comparison.
 use super::Q16E1;
 use crate::P16E1;
 use core::ops;

@@ -1,4 +1,4 @@
-// A stub: src/quire8/convert.rs is not among the source files here. Never called by the comparison.
+// A stub: src/quire8/convert.rs is not among the files of softposit.sha256. Never called by the comparison.
 use super::Q8E0;
 use crate::P8E0;
 impl From<P8E0> for Q8E0 { fn from(_: P8E0) -> Self { unimplemented!() } }

@@ -1,4 +1,4 @@
-// A stub: src/quire8/ops.rs is not among the source files here. Never called by the comparison.
+// A stub: src/quire8/ops.rs is not among the files of softposit.sha256. Never called by the comparison.
 use super::Q8E0;
 use crate::P8E0;
 use core::ops;
