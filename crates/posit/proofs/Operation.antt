@@ -12,7 +12,7 @@ use lib.Arith.{lt-of-le-ne}
 use lib.Dec.{eqb}
 use lib.IntN.{ℤ, pos, negℤ, _+ℤ_, _-ℤ_, _*ℤ_, negℤ-negℤ, +ℤ-idl, +ℤ-idr, +ℤ-comm, zero-*ℤ, *ℤ-zero}
 use lib.Pow.{pow-pos}
-use Rattle.posit.specs.Pattern.{nar, opposite, size, value, unit}
+use Rattle.posit.specs.Pattern.{nar, opposite, size, value, least, unit}
 use Rattle.posit.specs.Operation.{unlessNar, exact, exactProduct, roundedHere, sum, difference, product, quotient, fusedSum, fusedDifference, productTaken}
 use Rattle.posit.proofs.Signs.{negated-product}
 use Rattle.posit.proofs.Rounding.{unit-fine}

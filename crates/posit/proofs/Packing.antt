@@ -9,6 +9,7 @@ use native.Mathlib.Omega.{arith}
 use borrow.Author.Tests.{lt-ltb}
 use lib.Dec.{ltb}
 use lib.Arith.{digits-lt, digits-div, digits-mod}
+use mir.Val.{boolByte}
 use lib.Pow.{pow-pos, pow-add}
 use Rattle.posit.specs.Pattern.{size, least}
 use Rattle.posit.specs.Exact.{Exact, Sound}
@@ -117,3 +118,7 @@ module _ (t j c : ℕ) where
 -- between the smallest and the largest pattern nothing is clamped
 pub inside : (w h : ℕ) (more : Bool) → 2 ≤ h → h < 2 ^ suc w - 2 → clamped w (halfEven h more) ≡ halfEven h more
 inside w h more l k = omega (arith, near h more .0, near h more .1, pow-suc 2 w)
+
+-- the pattern of P32E2 that digits stand for: a run of m + 1 digits o with its end, and 63 digits T behind it, of which those that fit stay
+unfoldable pub fromDigits : Bool → ℕ → ℕ → Bool → ℕ
+fromDigits o m T s = halfEven (built o (suc m) 0 0 * 2 ^ (30 - m) + T / 2 ^ (33 + m)) (ltb 0 (T % 2 ^ (33 + m) + boolByte s))

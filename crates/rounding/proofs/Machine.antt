@@ -7,17 +7,12 @@ use native.Mathlib.Nat.{one-mul, mod-eq-of-lt, le-of-lt, lt-of-le-of-lt, mul-le-
 use lib.Dec.{lit<}
 use lib.Pow.{pow-pos, pow-lt, pow-add}
 use mir.Val.{boolByte}
-use Rattle.rounding.specs.Packed.{asDigit}
 
 pub one-shifted : (w k : ℕ) → k < w → 1 * 2 ^ k % 2 ^ w ≡ 2 ^ k
 one-shifted w k h = rw one-mul (mod-eq-of-lt (pow-lt h))
 
 pub product-lt : (k : ℕ) {a b : ℕ} → a < 2 ^ k → b < 2 ^ k → a * b < 2 ^ (k + k)
 product-lt k {a} ha hb = rw pow-add (lt-of-le-of-lt (mul-le-mul-left a (le-of-lt hb)) (mul-lt-mul-of-pos-right ha (pow-pos k)))
-
-pub digit-is : (s : Bool) → boolByte s ≡ asDigit s
-digit-is true = refl
-digit-is false = refl
 
 pub digit-lt : (s : Bool) → boolByte s < 2
 digit-lt true = lit< tt

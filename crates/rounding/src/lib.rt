@@ -5,12 +5,13 @@ ghost use Rattle.posit.specs.Exact.{whole};
 ghost use Rattle.posit.specs.Rounding.{round, signed};
 ghost use Rattle.posit.proofs.Built.{built};
 ghost use Rattle.posit.proofs.LongPattern.{halfEven};
-ghost use Rattle.rounding.specs.Packed.{packedSize, fromDigits};
+ghost use Rattle.posit.proofs.Packing.{fromDigits};
+ghost use Rattle.rounding.specs.Packed.{packedUnit, packedSize};
 
 // The size 2^(scale - 1024)·(1 + f), rounded, with its sign. The fraction f is the lowest 61 bits of `fraction`, and half a unit of the last one
 // more where the sticky bit is set.
 pub fn pack(negative: bool, scale: u32, fraction: u64, sticky: bool) -> u32
-    ensures { λ r. ⌜ r ≡ signed 31 negative (round 2 31 1086 (whole (packedSize scale fraction sticky))) ⌝ }
+    ensures { λ r. ⌜ r ≡ signed 31 negative (round 2 31 packedUnit (whole (packedSize scale fraction sticky))) ⌝ }
 {
     let p = pack_size(scale, fraction, sticky);
     if negative {
@@ -22,7 +23,7 @@ pub fn pack(negative: bool, scale: u32, fraction: u64, sticky: bool) -> u32
 
 // The same without the sign. Beyond 2^120 and below 2^-120 there is one pattern each; between, the regime k is from -30 to 29.
 fn pack_size(scale: u32, fraction: u64, sticky: bool) -> u32
-    ensures { λ r. ⌜ r ≡ round 2 31 1086 (whole (packedSize scale fraction sticky)) ⌝ }
+    ensures { λ r. ⌜ r ≡ round 2 31 packedUnit (whole (packedSize scale fraction sticky)) ⌝ }
 {
     if scale < 904 {
         return 1;

@@ -5,9 +5,10 @@ use native.Mathlib.Nat.{mod-lt, lt-of-lt-of-le}
 use native.Mathlib.Omega.{arith}
 use lib.Dec.{ltb}
 use lib.Pow.{pow-pos, pow-mono}
+use mir.Val.{boolByte}
 use Rattle.posit.proofs.LongPattern.{halfEven}
-use Rattle.rounding.specs.Packed.{fromDigits}
-use Rattle.rounding.proofs.Machine.{one-shifted, digit-is, digit-lt}
+use Rattle.posit.proofs.Packing.{fromDigits}
+use Rattle.rounding.proofs.Machine.{one-shifted, digit-lt}
 use Rattle.rounding.proofs.Packed.{behind-lt, within}
 use borrow.Author.Needs.{needs}
 use Rattle.rounding.proofs.from_digits.Statement.{statement}
@@ -62,8 +63,8 @@ returns c =
     let a = c .before .before .args in
     let rest : ℕ → ℕ = λ n. a .t % n in
     c .half-even .ensures
-    ∙ ap₂ (λ (r n : ℕ). halfEven (r + a .t / 2 ^ (33 + a .m)) (ltb 0 n)) (c .before .regime .ensures)
-    (ap₂ _+_ (ap rest (one-shifted 64 (33 + a .m) (omega arith))) (digit-is (a .sticky)))
+    ∙ ap₂ (λ (r n : ℕ). halfEven (r + a .t / 2 ^ (33 + a .m)) (ltb 0 (n + boolByte (a .sticky)))) (c .before .regime .ensures)
+    (ap rest (one-shifted 64 (33 + a .m) (omega arith)))
 
 pub from-digits-spec : {M : Type 1} → statement M
 from-digits-spec =

@@ -8,7 +8,7 @@ use Rattle.rounding.proofs.Packed.{pack-size-is, packing, packing-tiny,
 use borrow.Author.Needs.{needs}
 use borrow.Author.Tests.{le-leb, lt-leb}
 use lib.Dec.{leb}
-use Rattle.rounding.specs.Packed.{fromDigits}
+use Rattle.posit.proofs.Packing.{fromDigits}
 use Rattle.rounding.proofs.pack_size.Statement.{statement}
 use Rattle.rounding.proofs.pack_size.Tie as tie
 
