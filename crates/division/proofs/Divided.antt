@@ -12,30 +12,30 @@ use Rattle.posit.specs.Exact.{Exact, whole, ratio, Sound, above, Under}
 use Rattle.posit.specs.Rounding.{round}
 use Rattle.posit.proofs.Arith.{pow-sum}
 use Rattle.posit.proofs.Compare.{AtLeast, ltb-factor}
-use Rattle.rounding.specs.Packed.{packedSize}
+use Rattle.rounding.specs.Packed.{packedSize, packedUnit}
 use Rattle.rounding.proofs.Packed.{significand-stands-for}
 
-module _ (g d c e : ℕ) (g-pos : 0 < g) (d-pos : 0 < d) (near : e ≤ c + 1054) (n : ℕ) (dividend : n ≡ g * 2 ^ 32) where
+module _ (g d c e : ℕ) (g-pos : 0 < g) (d-pos : 0 < d) (near : e ≤ c + (packedUnit - 32)) (n : ℕ) (dividend : n ≡ g * 2 ^ 32) where
   abbrev sizesRatio : Exact
-  sizesRatio = ratio (g * 2 ^ c * 2 ^ 1086) (d * 2 ^ e)
+  sizesRatio = ratio (g * 2 ^ c * 2 ^ packedUnit) (d * 2 ^ e)
 
-  bound-is : g * 2 ^ c * 2 ^ 1086 ≡ n * 2 ^ (c + 1054)
+  bound-is : g * 2 ^ c * 2 ^ packedUnit ≡ n * 2 ^ (c + (packedUnit - 32))
   bound-is =
-      mul-assoc g (2 ^ c) (2 ^ 1086)
-      ∙ ap (λ (p : ℕ). g * p) (pow-sum c 1086 (32 + (c + 1054)) (omega arith) ∙ pow-add 2 32 (c + 1054))
-      ∙ sym (mul-assoc g (2 ^ 32) (2 ^ (c + 1054)))
-      ∙ ap (λ (m : ℕ). m * 2 ^ (c + 1054)) (sym dividend)
+      mul-assoc g (2 ^ c) (2 ^ packedUnit)
+      ∙ ap (λ (p : ℕ). g * p) (pow-sum c packedUnit (32 + (c + (packedUnit - 32))) (omega arith) ∙ pow-add 2 32 (c + (packedUnit - 32)))
+      ∙ sym (mul-assoc g (2 ^ 32) (2 ^ (c + (packedUnit - 32))))
+      ∙ ap (λ (m : ℕ). m * 2 ^ (c + (packedUnit - 32))) (sym dividend)
 
-  told-is : (v : ℕ) → v * 2 ^ (c + 1054 - e) * (d * 2 ^ e) ≡ v * d * 2 ^ (c + 1054)
-  told-is v = omega (arith, ap (λ (p : ℕ). v * d * p) (pow-sum (c + 1054 - e) e (c + 1054) (omega arith)))
+  told-is : (v : ℕ) → v * 2 ^ (c + (packedUnit - 32) - e) * (d * 2 ^ e) ≡ v * d * 2 ^ (c + (packedUnit - 32))
+  told-is v = omega (arith, ap (λ (p : ℕ). v * d * p) (pow-sum (c + (packedUnit - 32) - e) e (c + (packedUnit - 32)) (omega arith)))
 
-  at-least : AtLeast sizesRatio (n / d * 2 ^ (c + 1054 - e))
-  at-least = subst₂ _≤_ (sym (told-is (n / d))) (sym bound-is) (mul-le-mul-right (2 ^ (c + 1054)) (omega (arith, div-add-mod' n d)))
+  at-least : AtLeast sizesRatio (n / d * 2 ^ (c + (packedUnit - 32) - e))
+  at-least = subst₂ _≤_ (sym (told-is (n / d))) (sym bound-is) (mul-le-mul-right (2 ^ (c + (packedUnit - 32))) (omega (arith, div-add-mod' n d)))
 
-  under : Under sizesRatio (suc (n / d) * 2 ^ (c + 1054 - e))
+  under : Under sizesRatio (suc (n / d) * 2 ^ (c + (packedUnit - 32) - e))
   under =
       let less : n < suc (n / d) * d = omega (arith, div-add-mod' n d, mod-lt n d-pos) in
-      subst₂ _<_ (sym bound-is) (sym (told-is (suc (n / d)))) (mul-lt-mul-of-pos-right less (pow-pos (c + 1054)))
+      subst₂ _<_ (sym bound-is) (sym (told-is (suc (n / d)))) (mul-lt-mul-of-pos-right less (pow-pos (c + (packedUnit - 32))))
 
   rest-is-left : ltb (n / d * d) n ≡ ltb 0 (n % d)
   rest-is-left = go (decLt 0 (n % d))
@@ -44,12 +44,12 @@ module _ (g d c e : ℕ) (g-pos : 0 < g) (d-pos : 0 < d) (near : e ≤ c + 1054)
       go (yes h) = lt-ltb (n / d * d) n (omega (arith, div-add-mod' n d)) ∙ sym (lt-ltb 0 (n % d) h)
       go (no h) = le-ltb (n / d * d) n (omega (arith, div-add-mod' n d)) ∙ sym (le-ltb 0 (n % d) (omega arith))
 
-  above-is : above sizesRatio (n / d * 2 ^ (c + 1054 - e)) ≡ ltb 0 (n % d)
-  above-is = ap₂ ltb (told-is (n / d)) bound-is ∙ ltb-factor (n / d * d) n (2 ^ (c + 1054)) (pow-pos (c + 1054)) ∙ rest-is-left
+  above-is : above sizesRatio (n / d * 2 ^ (c + (packedUnit - 32) - e)) ≡ ltb 0 (n % d)
+  above-is = ap₂ ltb (told-is (n / d)) bound-is ∙ ltb-factor (n / d * d) n (2 ^ (c + (packedUnit - 32))) (pow-pos (c + (packedUnit - 32))) ∙ rest-is-left
 
   -- the leading one of the quotient is at bit m
-  pub ratio-rounds : (m k : ℕ) → 28 ≤ m → m ≤ 61 → k + 62 - m ≡ c + 1054 - e → 2 ^ m ≤ n / d → n / d < 2 ^ suc m
-      → round 2 31 1086 sizesRatio ≡ round 2 31 1086 (whole (packedSize k (n / d * 2 ^ (61 - m)) (ltb 0 (n % d))))
+  pub ratio-rounds : (m k : ℕ) → 28 ≤ m → m ≤ 61 → k + 62 - m ≡ c + (packedUnit - 32) - e → 2 ^ m ≤ n / d → n / d < 2 ^ suc m
+      → round 2 31 packedUnit sizesRatio ≡ round 2 31 packedUnit (whole (packedSize k (n / d * 2 ^ (61 - m)) (ltb 0 (n % d))))
   ratio-rounds m k hm hm′ place leading short =
-      let sound : Sound sizesRatio = (mul-pos (mul-pos g-pos (pow-pos c)) (pow-pos 1086), mul-pos d-pos (pow-pos e)) in
-      significand-stands-for sizesRatio sound m hm hm′ k (n / d) (c + 1054 - e) place leading short at-least under (ltb 0 (n % d)) above-is
+      let sound : Sound sizesRatio = (mul-pos (mul-pos g-pos (pow-pos c)) (pow-pos packedUnit), mul-pos d-pos (pow-pos e)) in
+      significand-stands-for sizesRatio sound m hm hm′ k (n / d) (c + (packedUnit - 32) - e) place leading short (ltb 0 (n % d)) (record { low = at-least; high = under; seen = above-is })

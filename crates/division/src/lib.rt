@@ -5,6 +5,7 @@ ghost use Rattle.posit.specs.Pattern.{unsigned, size};
 ghost use Rattle.posit.specs.Exact.{ratio};
 ghost use Rattle.posit.specs.Rounding.{round, signed};
 ghost use Rattle.posit.specs.Operation.{quotient};
+ghost use Rattle.rounding.specs.Packed.{packedUnit};
 ghost use Rattle.unpacking.specs.Scaled.{scaledUnit, Real};
 use rounding::pack;
 use unpacking::NAR;
@@ -30,7 +31,7 @@ pub fn div(p: u32, q: u32) -> u32
 // remainder is the sticky bit.
 fn div_sizes(negative: bool, a: u32, b: u32) -> u32
     requires { ⌜ Real a × Real b ⌝ }
-    ensures { λ r. ⌜ r ≡ signed 31 negative (round 2 31 1086 (ratio (size 2 31 scaledUnit (unsigned 31 a) * 2 ^ 1086) (size 2 31 scaledUnit (unsigned 31 b)))) ⌝ }
+    ensures { λ r. ⌜ r ≡ signed 31 negative (round 2 31 packedUnit (ratio (size 2 31 scaledUnit (unsigned 31 a) * 2 ^ packedUnit) (size 2 31 scaledUnit (unsigned 31 b)))) ⌝ }
 {
     let x = scaled_of(a);
     let y = scaled_of(b);

@@ -1,6 +1,6 @@
--- The sum and the difference of two magnitudes g * 2 ^ c and l * 2 ^ e, with e at most c: in units of 2 ^ c it lies from a whole number of digits up to the next,
--- and above it just where digits of l are lost. One lemma serves both, over `combine`; the greater term has the sign.
-use mathlib.Core.Path.{_≡_, refl, sym, ap, _∙_}
+-- The sum and the difference of two magnitudes g * 2 ^ c and l * 2 ^ e, with e at most c: it counts a whole number of units of 2 ^ c,
+-- and is above them just where digits of l are lost. One lemma serves both, over `combine`; the greater term has the sign.
+use mathlib.Core.Path.{_≡_, refl, sym, ap, subst₂, _∙_}
 use mathlib.Core.Bool.{Bool, true, false, Bool·beq}
 use Prim.Native.Nat.{ℕ, zero, suc, _+_, _-_, _*_, _/_, _%_, _^_, _≤_, _<_}
 use native.Mathlib.Nat.{pow-suc, lt-of-lt-of-le, le-trans, mul-le-mul-left, mul-le-mul-right, mul-lt-mul-of-pos-right, div-add-mod', mod-lt, mod-one, mul-pos, mul-assoc, add-mul}
@@ -10,13 +10,14 @@ use borrow.Author.Tests.{lt-ltb, le-ltb, ltb-true, ltb-false}
 use lib.Dec.{ltb}
 use lib.IntN.{_+ℤ_}
 use lib.Pow.{pow-pos, pow-mono}
-use Rattle.posit.specs.Exact.{whole, above}
+use Rattle.posit.specs.Exact.{whole}
 use Rattle.posit.specs.Rounding.{rounded}
 use Rattle.posit.proofs.Arith.{pow-sum}
 use Rattle.posit.proofs.Signs.{withSign, sub-mul, sum-same, sum-unlike}
-use Rattle.rounding.specs.Packed.{asDigit}
-use Rattle.exact_terms.specs.Terms.{Normal}
-use Rattle.exact_terms.specs.Sums.{Near, combine}
+use Rattle.posit.proofs.Compare.{Counts, counts-times}
+use Rattle.rounding.specs.Packed.{packedUnit}
+use mir.Val.{boolByte}
+use Rattle.rounding.proofs.Terms.{Normal, combine}
 
 -- ---- the order of two magnitudes
 
@@ -39,12 +40,13 @@ abbrev pub total : Bool → ℕ → ℕ → ℕ
 total true a b = a + b
 total false a b = a - b
 
--- M is n whole units of D and r more, which is above 0 where b says so
-pub record Over (D n M : ℕ) (b : Bool) : Type 0 where
-  pub r : ℕ
-  pub is : M ≡ n * D + r
-  pub short : r < D
-  pub seen : ltb 0 r ≡ b
+-- n whole units of D and r more, which is less than one
+counts-rest : (D n M r : ℕ) → M ≡ n * D + r → r < D → Counts (whole M) n D (ltb 0 r)
+counts-rest D n M r e short = record { low = omega arith; high = omega arith; seen = go (decLt 0 r) }
+  where
+    go : Dec (0 < r) → ltb (n * D) M ≡ ltb 0 r
+    go (yes h) = lt-ltb (n * D) M (omega arith) ∙ sym (lt-ltb 0 r h)
+    go (no h) = le-ltb (n * D) M (omega arith) ∙ sym (le-ltb 0 r (omega arith))
 
 module _ (g l D : ℕ) (positive : 0 < D) (less : l ≤ g * D) where
   parted : l / D * D + l % D ≡ l
@@ -64,52 +66,34 @@ module _ (g l D : ℕ) (positive : 0 < D) (less : l ≤ g * D) where
       go (yes h) = h
       go (no h) = absurd (omega (arith, parted, mul-le-mul-right {m = g} {n = l / D} D (omega arith)))
 
-  pub room : l / D + asDigit (ltb 0 (l % D)) ≤ g
+  pub room : l / D + boolByte (ltb 0 (l % D)) ≤ g
   room = go (decLt 0 (l % D))
     where
-      go : Dec (0 < l % D) → l / D + asDigit (ltb 0 (l % D)) ≤ g
+      go : Dec (0 < l % D) → l / D + boolByte (ltb 0 (l % D)) ≤ g
       go (yes h) = rw (lt-ltb 0 (l % D) h) (omega (arith, kept-lt h))
       go (no h) = rw (le-ltb 0 (l % D) (omega arith)) (omega (arith, kept-le))
 
-  pub digits-over : (same : Bool) → Over D (combine same g (l / D) (ltb 0 (l % D))) (total same (g * D) l) (ltb 0 (l % D))
-  digits-over true = record { r = l % D; is = omega (arith, parted); short = mod-lt l positive; seen = refl }
-  digits-over false = go (decLt 0 (l % D))
+  pub digits-count : (same : Bool) → Counts (whole (total same (g * D) l)) (combine same g (l / D) (ltb 0 (l % D))) D (ltb 0 (l % D))
+  digits-count true = counts-rest D (g + l / D) (g * D + l) (l % D) (omega (arith, parted)) (mod-lt l positive)
+  digits-count false = go (decLt 0 (l % D))
     where
-      go : Dec (0 < l % D) → Over D (combine false g (l / D) (ltb 0 (l % D))) (g * D - l) (ltb 0 (l % D))
+      go : Dec (0 < l % D) → Counts (whole (g * D - l)) (combine false g (l / D) (ltb 0 (l % D))) D (ltb 0 (l % D))
       go (yes h) =
           let n = g - l / D - 1 in
           let all : g ≡ l / D + suc n = omega (arith, kept-lt h) in
           rw (lt-ltb 0 (l % D) h)
-          (record {
-            r = D - l % D;
-            is = omega (arith, parted, mod-lt l positive, ap (λ (t : ℕ). t * D) all);
-            short = omega arith;
-            seen = lt-ltb 0 (D - l % D) (omega (arith, mod-lt l positive));
-          })
+          (rw (lt-ltb 0 (D - l % D) (omega (arith, mod-lt l positive)))
+          at (counts-rest D n (g * D - l) (D - l % D) (omega (arith, parted, mod-lt l positive, ap (λ (t : ℕ). t * D) all)) (omega arith)))
       go (no h) =
           let n = g - l / D - 0 in
           let all : g ≡ l / D + n = omega (arith, kept-le) in
-          rw (le-ltb 0 (l % D) (omega arith))
-          (record { r = 0; is = omega (arith, parted, ap (λ (t : ℕ). t * D) all); short = positive; seen = refl })
+          rw (le-ltb 0 (l % D) (omega arith)) (counts-rest D n (g * D - l) 0 (omega (arith, parted, ap (λ (t : ℕ). t * D) all)) positive)
 
 -- ---- magnitudes
 
 total-mul : (same : Bool) (a b k : ℕ) → total same a b * k ≡ total same (a * k) (b * k)
 total-mul true a b k = add-mul a b k
 total-mul false a b k = sub-mul a b k
-
--- n units of Q = D * P, and r * P more
-near-units : (n D r P Q N : ℕ) → Q ≡ D * P → N ≡ (n * D + r) * P → r < D → 0 < P → (n * Q ≤ N) × (N < suc n * Q) × (ltb (n * Q) N ≡ ltb 0 r)
-near-units n D r P Q N q e short positive = (omega (arith, sum), omega (arith, sum, q, mul-lt-mul-of-pos-right short positive), go (decLt 0 r))
-  where
-    sum : N ≡ n * Q + r * P
-    sum = omega (arith, e, ap (λ (t : ℕ). n * t) q)
-
-    go : Dec (0 < r) → ltb (n * Q) N ≡ ltb 0 r
-    go (yes h) = lt-ltb (n * Q) N (omega (arith, sum, mul-pos h positive)) ∙ sym (lt-ltb 0 r h)
-    go (no h) =
-        let none : r ≡ 0 = omega arith in
-        le-ltb (n * Q) N (omega (arith, sum, ap (λ (t : ℕ). t * P) none)) ∙ sym (le-ltb 0 r (omega arith))
 
 -- digits of an even number are lost only from two on, and then at most a quarter of it stays
 lost-from-two : (l d : ℕ) → l % 2 ≡ 0 → l < 2 ^ 63 → 0 < l % 2 ^ d → l / 2 ^ d < 2 ^ 61
@@ -134,31 +118,27 @@ module _ (c g e l : ℕ) (x : Normal c g) (y : Normal e l) (order : l * 2 ^ e �
       go (no h) = omega arith
 
   module _ (same : Bool) where
-    over : Over (2 ^ (c - e)) (combine same g (l / 2 ^ (c - e)) (ltb 0 (l % 2 ^ (c - e)))) (total same (g * 2 ^ (c - e)) l) (ltb 0 (l % 2 ^ (c - e)))
-    over = digits-over g l (2 ^ (c - e)) (pow-pos (c - e)) less same
-
-    total-is : (n : ℕ) → total same (g * 2 ^ (c - e)) l ≡ n → total same (g * 2 ^ c) (l * 2 ^ e) ≡ n * 2 ^ e
-    total-is n k =
+    total-is : total same (g * 2 ^ c) (l * 2 ^ e) ≡ total same (g * 2 ^ (c - e)) l * 2 ^ e
+    total-is =
         ap (λ (a : ℕ). total same a (l * 2 ^ e)) (ap (λ (p : ℕ). g * p) split ∙ sym (mul-assoc g (2 ^ (c - e)) (2 ^ e)))
         ∙ sym (total-mul same (g * 2 ^ (c - e)) l (2 ^ e))
-        ∙ ap (λ (m : ℕ). m * 2 ^ e) k
 
-    -- the sum lies from n * 2 ^ c up to the next such number, and above it where digits are lost
+    -- the sum counts n units of 2 ^ c, and is above them where digits are lost
     abbrev pub Found : ℕ → Bool → Type 0
-    Found n lost = Near (whole (total same (g * 2 ^ c) (l * 2 ^ e))) n c × (above (whole (total same (g * 2 ^ c) (l * 2 ^ e))) (n * 2 ^ c) ≡ lost) × (lost ≡ true → 2 ^ 61 ≤ n)
+    Found n lost = Counts (whole (total same (g * 2 ^ c) (l * 2 ^ e))) n (2 ^ c) lost × (lost ≡ true → 2 ^ 61 ≤ n)
 
     pub found : Found (combine same g (l / 2 ^ (c - e)) (ltb 0 (l % 2 ^ (c - e)))) (ltb 0 (l % 2 ^ (c - e)))
     found =
-        let n = combine same g (l / 2 ^ (c - e)) (ltb 0 (l % 2 ^ (c - e))) in
-        let k = near-units n (2 ^ (c - e)) (over .r) (2 ^ e) (2 ^ c) (total same (g * 2 ^ c) (l * 2 ^ e)) split (total-is _ (over .is)) (over .short) (pow-pos e) in (
-          record { low = k .0; high = k .1 },
-          k .2 ∙ over .seen,
-          λ h. rw h (still-wide same g (l / 2 ^ (c - e)) (x .leading) (lost-from-two l (c - e) (y .even) (y .below) (ltb-true 0 (l % 2 ^ (c - e)) h))),
-        )
+        let lost = ltb 0 (l % 2 ^ (c - e)) in
+        let n = combine same g (l / 2 ^ (c - e)) lost in (
+      subst₂ (λ (M U : ℕ). Counts (whole M) n U lost) (sym total-is) (sym split)
+          (counts-times (2 ^ e) (pow-pos e) (digits-count g l (2 ^ (c - e)) (pow-pos (c - e)) less same)),
+      λ h. rw h (still-wide same g (l / 2 ^ (c - e)) (x .leading) (lost-from-two l (c - e) (y .even) (y .below) (ltb-true 0 (l % 2 ^ (c - e)) h))),
+    )
 
     pub nothing : (lost : Bool) (n : ℕ) → Found n lost → n ≡ 0 → total same (g * 2 ^ c) (l * 2 ^ e) ≡ 0
-    nothing true n f z = absurd (omega (arith, f .2 refl))
-    nothing false n f z = omega (arith, ltb-false (n * 2 ^ c) (total same (g * 2 ^ c) (l * 2 ^ e)) (f .1), ap (λ (k : ℕ). k * 2 ^ c) z)
+    nothing true n f z = absurd (omega (arith, f .1 refl))
+    nothing false n f z = omega (arith, ltb-false (n * 2 ^ c) (total same (g * 2 ^ c) (l * 2 ^ e)) (f .0 .seen), ap (λ (k : ℕ). k * 2 ^ c) z)
 
 -- ---- signs
 
@@ -169,7 +149,7 @@ sum-total true false a b h = sum-unlike true a b h
 sum-total false true a b h = sum-unlike false a b h
 sum-total false false a b h = sum-same false a b
 
-pub none-rounded : (s : Bool) → rounded 2 31 1086 (withSign s 0) ≡ 0
+pub none-rounded : (s : Bool) → rounded 2 31 packedUnit (withSign s 0) ≡ 0
 unfolding rounded
 none-rounded true = refl
 none-rounded false = refl

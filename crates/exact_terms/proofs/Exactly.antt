@@ -1,14 +1,14 @@
--- A posit and a product as exact terms: their exact values, told in units of 2 ^ - 1086, are a significand times a power of two with a sign. What the scales and
+-- A posit and a product as exact terms: their exact values, told in units of 2 ^ - packedUnit, are a significand times a power of two with a sign. What the scales and
 -- significands tell of the values (`value-scaled`, `product-scaled`) is moved to these units.
 use mathlib.Core.Path.{_≡_, sym, ap, ap₂, _∙_}
 use mathlib.Core.Bool.{Bool, false, xor}
-use Prim.Native.Nat.{ℕ, _+_, _*_, _/_, _%_, _^_, _≤_, _<_}
+use Prim.Native.Nat.{ℕ, _+_, _*_, _/_, _%_, _^_, _≤_, _<_, _-_}
 use native.Mathlib.Nat.{mul-le-mul-left, mul-le-mul-right, mul-lt-mul-of-pos-right, lt-of-le-of-lt, le-trans, le-of-lt, mul-pos}
 use native.Mathlib.Omega.{arith}
 use lib.Dec.{lit<, lit≤}
 use lib.IntN.{ℤ, _+ℤ_}
 use lib.Pow.{pow-pos}
-use Rattle.posit.specs.Pattern.{isNegative}
+use Rattle.posit.specs.Pattern.{isNegative, unit}
 use Rattle.posit.specs.Exact.{whole}
 use Rattle.posit.specs.Rounding.{round, rounded, signed}
 use Rattle.posit.specs.Operation.{exact, exactProduct}
@@ -17,10 +17,10 @@ use Rattle.posit.proofs.Signs.{withSign}
 use Rattle.posit.proofs.Unsigned.{value-unit}
 use Rattle.posit.proofs.Finer.{rounded-finer, sum-finer}
 use Rattle.posit.proofs.Value.{rounded-signed}
-use Rattle.rounding.specs.Packed.{packedSize}
-use Rattle.unpacking.specs.Scaled.{InScale, Real, IsScaled}
+use Rattle.rounding.specs.Packed.{packedSize, packedUnit}
+use Rattle.unpacking.specs.Scaled.{InScale, Real, IsScaled, scaledUnit}
 use Rattle.unpacking.proofs.Valued.{value-scaled, product-scaled}
-use Rattle.exact_terms.specs.Terms.{Normal, IsTerm, Multiplied}
+use Rattle.rounding.proofs.Terms.{Normal, IsTerm, Multiplied, finerBy}
 
 -- ---- a posit
 
@@ -30,9 +30,9 @@ posit-term p c g short real s =
     let in-scale = s .of-real real .in-scale in
     record {
       is =
-          sym (value-unit 2 31 p 240 846 short (real .1) (lit≤ tt))
-          ∙ value-scaled p c g short (real .1) s 936
-          ∙ ap (withSign (isNegative 31 p)) (same-power g c 936 32 (c + 904) (omega arith));
+          sym (value-unit 2 31 p 240 finerBy short (real .1) (lit≤ tt))
+          ∙ value-scaled p c g short (real .1) s (packedUnit - scaledUnit)
+          ∙ ap (withSign (isNegative 31 p)) (same-power g c (packedUnit - scaledUnit) 32 (c + 904) (omega arith));
       normal = omega arith;
     }
 
@@ -48,25 +48,25 @@ pub product-term : (a b c d g h : ℕ) → a < 2 ^ 32 → b < 2 ^ 32 → Real a 
     → (e n : ℕ) → Multiplied (g * h) (c + d) e n → IsTerm (exactProduct 2 31 a b) (xor (isNegative 31 a) (isNegative 31 b)) e n
 product-term a b c d g h short short′ ra rb sa sb e n m =
     record {
-      is = product-scaled a b c d g h short short′ (ra .1) (rb .1) sa sb 786 ∙ ap (withSign (xor (isNegative 31 a) (isNegative 31 b))) (sym (m .same));
+      is = product-scaled a b c d g h short short′ (ra .1) (rb .1) sa sb (finerBy - 60) ∙ ap (withSign (xor (isNegative 31 a) (isNegative 31 b))) (sym (m .same));
       normal = m .normal;
     }
 
 -- ---- a term, rounded
 
 pub term-rounded : (s : Bool) (c g : ℕ) → Normal c g
-    → rounded 2 31 1086 (withSign s (g * 2 ^ c)) ≡ signed 31 s (round 2 31 1086 (whole (packedSize c (g / 2) false)))
+    → rounded 2 31 packedUnit (withSign s (g * 2 ^ c)) ≡ signed 31 s (round 2 31 packedUnit (whole (packedSize c (g / 2) false)))
 term-rounded s c g n =
     let digits : g ≡ 2 * (2 ^ 61 + g / 2 % 2 ^ 61) + 0 = omega (arith, n .leading, n .below, n .even) in
-    rounded-signed 2 31 1086 s (g * 2 ^ c) (mul-pos (omega (arith, n .leading)) (pow-pos c))
-    ∙ ap (λ (m : ℕ). signed 31 s (round 2 31 1086 (whole (m * 2 ^ c)))) digits
+    rounded-signed 2 31 packedUnit s (g * 2 ^ c) (mul-pos (omega (arith, n .leading)) (pow-pos c))
+    ∙ ap (λ (m : ℕ). signed 31 s (round 2 31 packedUnit (whole (m * 2 ^ c)))) digits
 
 -- ---- from the units of the definitions to those of the terms
 
 module _ (x : ℤ) (s : Bool) (c g : ℕ) (is-x : IsTerm x s c g) where
-  pub term-alone : rounded 2 31 240 x ≡ rounded 2 31 1086 (withSign s (g * 2 ^ c))
-  term-alone = rounded-finer 2 31 240 846 (lit≤ tt) x ∙ ap (rounded 2 31 1086) (is-x .is)
+  pub term-alone : rounded 2 31 (unit 2 31) x ≡ rounded 2 31 packedUnit (withSign s (g * 2 ^ c))
+  term-alone = rounded-finer 2 31 (unit 2 31) finerBy (lit≤ tt) x ∙ ap (rounded 2 31 packedUnit) (is-x .is)
 
   pub terms-sum : (y : ℤ) (t : Bool) (d h : ℕ) → IsTerm y t d h
-      → rounded 2 31 240 (x +ℤ y) ≡ rounded 2 31 1086 (withSign s (g * 2 ^ c) +ℤ withSign t (h * 2 ^ d))
-  terms-sum y t d h is-y = sum-finer 2 31 240 846 (lit≤ tt) x y ∙ ap₂ (λ u v. rounded 2 31 1086 (u +ℤ v)) (is-x .is) (is-y .is)
+      → rounded 2 31 (unit 2 31) (x +ℤ y) ≡ rounded 2 31 packedUnit (withSign s (g * 2 ^ c) +ℤ withSign t (h * 2 ^ d))
+  terms-sum y t d h is-y = sum-finer 2 31 (unit 2 31) finerBy (lit≤ tt) x y ∙ ap₂ (λ u v. rounded 2 31 packedUnit (u +ℤ v)) (is-x .is) (is-y .is)

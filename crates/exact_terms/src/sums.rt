@@ -4,17 +4,18 @@ ghost use mathlib.Core.Bool.{true, cond};
 ghost use Prim.Native.Nat.{_+_, _-_, _*_, _/_, _%_, _^_, _≤_, _<_};
 ghost use lib.Dec.{ltb};
 ghost use lib.IntN.{_+ℤ_};
-ghost use Rattle.posit.specs.Exact.{Exact, Sound, above};
+ghost use Rattle.posit.specs.Exact.{Exact, Sound};
 ghost use Rattle.posit.specs.Rounding.{round, rounded, signed};
-ghost use Rattle.rounding.specs.Packed.{asDigit};
-ghost use Rattle.exact_terms.specs.Terms.{Normal};
-ghost use Rattle.exact_terms.specs.Sums.{magnitude, number, Near, combine};
+ghost use Rattle.posit.proofs.Compare.{Counts};
+ghost use Rattle.rounding.specs.Packed.{packedUnit};
+ghost use mir.Val.{boolByte};
+ghost use Rattle.rounding.proofs.Terms.{Normal, magnitude, term, combine};
 use super::terms::Term;
 use rounding::pack;
 
 pub(crate) fn sum_of(x: Term, y: Term) -> u32
     requires { ⌜ Normal (x .scale) (x .significand) × Normal (y .scale) (y .significand) ⌝ }
-    ensures { λ r. ⌜ r ≡ rounded 2 31 1086 (number x +ℤ number y) ⌝ }
+    ensures { λ r. ⌜ r ≡ rounded 2 31 packedUnit (term (x .negative) (x .scale) (x .significand) +ℤ term (y .negative) (y .scale) (y .significand)) ⌝ }
 {
     let b = below(x, y);
     sum_ordered(chosen(b, y, x), chosen(b, x, y))
@@ -30,7 +31,7 @@ fn chosen(first: bool, x: Term, y: Term) -> Term
 // Whether x is the smaller of the two without their signs.
 fn below(x: Term, y: Term) -> bool
     requires { ⌜ Normal (x .scale) (x .significand) × Normal (y .scale) (y .significand) ⌝ }
-    ensures { λ r. ⌜ r ≡ ltb (magnitude x) (magnitude y) ⌝ }
+    ensures { λ r. ⌜ r ≡ ltb (magnitude (x .scale) (x .significand)) (magnitude (y .scale) (y .significand)) ⌝ }
 {
     if x.scale == y.scale {
         x.significand < y.significand
@@ -41,8 +42,8 @@ fn below(x: Term, y: Term) -> bool
 
 // The sum has the sign of the greater term, high. The digits of low that fall below the last one of high are lost to the sticky bit.
 fn sum_ordered(high: Term, low: Term) -> u32
-    requires { ⌜ Normal (high .scale) (high .significand) × Normal (low .scale) (low .significand) × (magnitude low ≤ magnitude high) ⌝ }
-    ensures { λ r. ⌜ r ≡ rounded 2 31 1086 (number high +ℤ number low) ⌝ }
+    requires { ⌜ Normal (high .scale) (high .significand) × Normal (low .scale) (low .significand) × (magnitude (low .scale) (low .significand) ≤ magnitude (high .scale) (high .significand)) ⌝ }
+    ensures { λ r. ⌜ r ≡ rounded 2 31 packedUnit (term (high .negative) (high .scale) (high .significand) +ℤ term (low .negative) (low .scale) (low .significand)) ⌝ }
 {
     let a = align(low.significand, high.scale - low.scale);
     let n = combined(
@@ -77,7 +78,7 @@ fn align(g: u64, d: u32) -> Aligned
 
 // What is lost of a number that is taken makes the difference one less, and something above it.
 fn combined(same: bool, g: u64, kept: u64, lost: bool) -> u64
-    requires { ⌜ (kept + asDigit lost ≤ g) × (g < 2 ^ 63) ⌝ }
+    requires { ⌜ (kept + boolByte lost ≤ g) × (g < 2 ^ 63) ⌝ }
     ensures { λ r. ⌜ r ≡ combine same g kept lost ⌝ }
 {
     if same {
@@ -90,7 +91,7 @@ fn combined(same: bool, g: u64, kept: u64, lost: bool) -> u64
 // n·2^scale, or more where the sticky bit says so, but less than (n + 1)·2^scale: rounded, with its sign. The leading one of n is moved to bit 61.
 fn pack_wide(negative: bool, scale: u32, n: u64, sticky: bool) -> u32
     requires { ⌜ (0 < n) × (sticky ≡ true → 2 ^ 61 ≤ n) × (64 ≤ scale) × (scale < 2000) ⌝ }
-    ensures { λ r. ⌜ ((x : Exact) → Sound x → Near x n scale → above x (n * 2 ^ scale) ≡ sticky → r ≡ signed 31 negative (round 2 31 1086 x)) ⌝ }
+    ensures { λ r. ⌜ ((x : Exact) → Sound x → Counts x n (2 ^ scale) sticky → r ≡ signed 31 negative (round 2 31 packedUnit x)) ⌝ }
 {
     let z = u64::leading_zeros(n);
     let m = n << z;

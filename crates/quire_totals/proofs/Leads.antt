@@ -13,38 +13,42 @@ use lib.ListN.{length, getD, drop, List·getD-eq-default}
 use lib.Pow.{pow-pos, pow-add}
 use Rattle.posit.specs.Digits.{Below}
 use Rattle.posit.proofs.Arith.{pow-sum, mul-mod-mul, pow-mul}
+use Rattle.rounding.proofs.Terms.{finerBy}
 use Rattle.quire_steps.proofs.Moved.{moved-down}
 use Rattle.quire_words.proofs.Places.{number-none, number-drop, number-drop-lt, below-at}
 use Rattle.quire_words.specs.Words.{wide}
-use Rattle.quire_totals.specs.Leading.{Leads}
+use Rattle.exact_terms.proofs.Wide.{Leads}
 
 -- X moved up by z digits is d units of Q and something less than Q besides, and Q is n words
 module _ (X z n d low : ℕ) (moved : X * 2 ^ z ≡ d * 2 ^ (64 * n) + low) (less : low < 2 ^ (64 * n)) (hz : z ≤ 63) (hn : n ≤ 7) where
-  finer : X * 2 ^ 846 ≡ (d * 2 ^ (64 * n) + low) * 2 ^ (846 - z)
-  finer = rw (← pow-sum z (846 - z) 846 (omega arith)) (omega (arith, ap (λ (t : ℕ). t * 2 ^ (846 - z)) moved))
+  finer : X * 2 ^ finerBy ≡ (d * 2 ^ (64 * n) + low) * 2 ^ (finerBy - z)
+  finer = rw (← pow-sum z (finerBy - z) finerBy (omega arith)) (omega (arith, ap (λ (t : ℕ). t * 2 ^ (finerBy - z)) moved))
 
-  unit-is : 2 ^ (846 + 64 * n - z) ≡ 2 ^ (64 * n) * 2 ^ (846 - z)
-  unit-is = sym (pow-sum (64 * n) (846 - z) (846 + 64 * n - z) (omega arith))
+  unit-is : 2 ^ (finerBy + 64 * n - z) ≡ 2 ^ (64 * n) * 2 ^ (finerBy - z)
+  unit-is = sym (pow-sum (64 * n) (finerBy - z) (finerBy + 64 * n - z) (omega arith))
 
-  more-seen : ltb 0 low ≡ ltb (d * 2 ^ (846 + 64 * n - z)) (X * 2 ^ 846)
+  more-seen : ltb 0 low ≡ ltb (d * 2 ^ (finerBy + 64 * n - z)) (X * 2 ^ finerBy)
   more-seen = rw (finer, unit-is) (go (decLt 0 low))
     where
-      go : Dec (0 < low) → ltb 0 low ≡ ltb (d * (2 ^ (64 * n) * 2 ^ (846 - z))) ((d * 2 ^ (64 * n) + low) * 2 ^ (846 - z))
+      go : Dec (0 < low) → ltb 0 low ≡ ltb (d * (2 ^ (64 * n) * 2 ^ (finerBy - z))) ((d * 2 ^ (64 * n) + low) * 2 ^ (finerBy - z))
       go (yes h) =
           lt-ltb 0 low h
-          ∙ sym (lt-ltb (d * (2 ^ (64 * n) * 2 ^ (846 - z))) ((d * 2 ^ (64 * n) + low) * 2 ^ (846 - z)) (omega (arith, mul-pos h (pow-pos (846 - z)))))
+          ∙ sym (lt-ltb (d * (2 ^ (64 * n) * 2 ^ (finerBy - z))) ((d * 2 ^ (64 * n) + low) * 2 ^ (finerBy - z)) (omega (arith, mul-pos h (pow-pos (finerBy - z)))))
       go (no h) =
           let none : low ≡ 0 = omega arith in
-          rw none (sym (le-ltb (d * (2 ^ (64 * n) * 2 ^ (846 - z))) ((d * 2 ^ (64 * n) + 0) * 2 ^ (846 - z)) (omega arith)))
+          rw none (sym (le-ltb (d * (2 ^ (64 * n) * 2 ^ (finerBy - z))) ((d * 2 ^ (64 * n) + 0) * 2 ^ (finerBy - z)) (omega arith)))
 
-  pub leads : 2 ^ 63 ≤ d → d < 2 ^ 64 → (more : Bool) → more ≡ ltb 0 low → Leads X (846 + 64 * n - z) d more
+  pub leads : 2 ^ 63 ≤ d → d < 2 ^ 64 → (more : Bool) → more ≡ ltb 0 low → Leads X (finerBy + 64 * n - z) d more
   leads top word more e =
       record {
         top = top;
         word = word;
-        low = rw (finer, unit-is) (omega arith);
-        high = rw (finer, unit-is) (omega (arith, mul-lt-mul-of-pos-right less (pow-pos (846 - z))));
-        more-is = e ∙ more-seen;
+        counts =
+            record {
+              low = rw (finer, unit-is) (omega arith);
+              high = rw (finer, unit-is) (omega (arith, mul-lt-mul-of-pos-right less (pow-pos (finerBy - z))));
+              seen = sym (e ∙ more-seen);
+            };
         above = omega arith;
         below = omega arith;
       }
@@ -95,7 +99,7 @@ module _ (h y z : ℕ) (hy : y < 2 ^ 64) (hz : z < 64) (top : 2 ^ 63 ≤ h * 2 ^
 
   -- n words behind these two
   two-word-digits : (n rest : ℕ) → n ≤ 6 → rest < (2 ^ 64) ^ n
-      → Leads (h * (2 ^ 64) ^ suc n + (y * (2 ^ 64) ^ n + rest)) (846 + 64 * suc n - z) (h * 2 ^ z % 2 ^ 64 + y / 2 / 2 ^ (63 - z)) (ltb 0 (y * 2 ^ z % 2 ^ 64) || ltb 0 rest)
+      → Leads (h * (2 ^ 64) ^ suc n + (y * (2 ^ 64) ^ n + rest)) (finerBy + 64 * suc n - z) (h * 2 ^ z % 2 ^ 64 + y / 2 / 2 ^ (63 - z)) (ltb 0 (y * 2 ^ z % 2 ^ 64) || ltb 0 rest)
   two-word-digits n rest hn hr =
       let K = 2 ^ (64 - z) in
       let Z = 2 ^ z in
@@ -117,28 +121,28 @@ module _ (h y z : ℕ) (hy : y < 2 ^ 64) (hz : z < 64) (top : 2 ^ 63 ≤ h * 2 ^
       (anything K Z P h y rest short hy′ hr pz pk))
 
 -- the last word, with none behind it
-one-word-digits : (h z : ℕ) → z < 64 → 2 ^ 63 ≤ h * 2 ^ z → h * 2 ^ z < 2 ^ 64 → Leads h (846 - z) (h * 2 ^ z % 2 ^ 64 + 0 / 2 / 2 ^ (63 - z)) (ltb 0 (0 * 2 ^ z % 2 ^ 64) || ltb 0 0)
+one-word-digits : (h z : ℕ) → z < 64 → 2 ^ 63 ≤ h * 2 ^ z → h * 2 ^ z < 2 ^ 64 → Leads h (finerBy - z) (h * 2 ^ z % 2 ^ 64 + 0 / 2 / 2 ^ (63 - z)) (ltb 0 (0 * 2 ^ z % 2 ^ 64) || ltb 0 0)
 one-word-digits h z hz top word =
     rw (mod-eq-of-lt word, zero-div (2 ^ (63 - z)), zero-mul (2 ^ z), add-zero (h * 2 ^ z))
     (leads h z 0 (h * 2 ^ z) 0 (omega arith) (lit< tt) (omega arith) (lit≤ tt) top word false refl)
 
 -- the words ws, of which the one at i is the first that is not 0
 pub digits-of : (ws : List ℕ) → length ws ≡ 8 → Below (2 ^ 64) ws → (i z : ℕ) → i < 8 → z < 64 → wide ws ≡ wide (drop i ws) → 2 ^ 63 ≤ getD ws i 0 * 2 ^ z → getD ws i 0 * 2 ^ z < 2 ^ 64
-    → Leads (wide ws) (1294 - 64 * i - z) (getD ws i 0 * 2 ^ z % 2 ^ 64 + getD ws (i + 1) 0 / 2 / 2 ^ (63 - z)) (ltb 0 (getD ws (i + 1) 0 * 2 ^ z % 2 ^ 64) || ltb 0 (wide (drop (i + 2) ws)))
+    → Leads (wide ws) ((finerBy + 448) - 64 * i - z) (getD ws i 0 * 2 ^ z % 2 ^ 64 + getD ws (i + 1) 0 / 2 / 2 ^ (63 - z)) (ltb 0 (getD ws (i + 1) 0 * 2 ^ z % 2 ^ 64) || ltb 0 (wide (drop (i + 2) ws)))
 digits-of ws e b i z hi hz all top word = go (decLt i 7)
   where
     first : wide (drop i ws) ≡ getD ws i 0 * (2 ^ 64) ^ (8 - suc i) + wide (drop (suc i) ws)
     first = rw e at (number-drop (2 ^ 64) ws i (omega arith))
 
     go : Dec (i < 7)
-        → Leads (wide ws) (1294 - 64 * i - z) (getD ws i 0 * 2 ^ z % 2 ^ 64 + getD ws (i + 1) 0 / 2 / 2 ^ (63 - z)) (ltb 0 (getD ws (i + 1) 0 * 2 ^ z % 2 ^ 64) || ltb 0 (wide (drop (i + 2) ws)))
+        → Leads (wide ws) ((finerBy + 448) - 64 * i - z) (getD ws i 0 * 2 ^ z % 2 ^ 64 + getD ws (i + 1) 0 / 2 / 2 ^ (63 - z)) (ltb 0 (getD ws (i + 1) 0 * 2 ^ z % 2 ^ 64) || ltb 0 (wide (drop (i + 2) ws)))
     go (yes l) =
         let second : wide (drop (suc i) ws) ≡ getD ws (suc i) 0 * (2 ^ 64) ^ (8 - suc (suc i)) + wide (drop (suc (suc i)) ws) = rw e at (number-drop (2 ^ 64) ws (suc i) (omega arith)) in
         let n = 8 - suc (suc i) in
         let one : i + 1 ≡ suc i = omega arith in
         let two : i + 2 ≡ suc (suc i) = omega arith in
         let places : 8 - suc i ≡ suc n = omega arith in
-        let unit : 1294 - 64 * i - z ≡ 846 + 64 * suc n - z = omega arith in
+        let unit : (finerBy + 448) - 64 * i - z ≡ finerBy + 64 * suc n - z = omega arith in
         rw (all, first, second, one, two, places, unit)
         (two-word-digits (getD ws i 0) (getD ws (suc i) 0) z (below-at (2 ^ 64) ws (suc i) b (omega arith)) hz top word n (wide (drop (suc (suc i)) ws)) (omega arith) (number-drop-lt (2 ^ 64) 8 (suc (suc i)) ws e b))
     go (no l) =

@@ -9,8 +9,9 @@ ghost use Rattle.posit.specs.Digits.{reading};
 ghost use Rattle.posit.specs.Rounding.{rounded};
 ghost use Rattle.posit.specs.Accumulator.{toPosit, partsOf, fromWords};
 ghost use Rattle.posit.proofs.Signs.{withSign};
+ghost use Rattle.posit.specs.Pattern.{unit};
 ghost use Rattle.quire_words.specs.Words.{wide};
-ghost use Rattle.quire_totals.specs.Leading.{Leads};
+ghost use Rattle.exact_terms.proofs.Wide.{Leads};
 use p32e2::P32E2;
 use quire_steps::sub_posit;
 use quire_words::NAR_WORD;
@@ -77,7 +78,7 @@ fn size_of(q: [u64; 8], negative: bool) -> [u64; 8]
 // The number w, which is not 0, rounded, with its sign.
 fn round_size(negative: bool, w: [u64; 8]) -> u32
     requires { ⌜ 0 < wide w ⌝ }
-    ensures { λ r. ⌜ r ≡ rounded 2 31 240 (withSign negative (wide w)) ⌝ }
+    ensures { λ r. ⌜ r ≡ rounded 2 31 (unit 2 31) (withSign negative (wide w)) ⌝ }
 {
     let x = first_digits(w);
     pack(
@@ -88,7 +89,7 @@ fn round_size(negative: bool, w: [u64; 8]) -> u32
     )
 }
 
-// The first 64 digits of a number, from its leading one on, as digits·2^unit in units of 2^-1086, and whether anything follows them.
+// The first 64 digits of a number, from its leading one on, as digits·2^unit in the unit of `pack`, and whether anything follows them.
 struct Leading {
     unit: u32,
     digits: u64,

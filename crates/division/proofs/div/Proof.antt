@@ -2,15 +2,16 @@
 use mathlib.Core.Path.{sym, ap, _∙_}
 use mathlib.Core.Bool.{Bool}
 use mathlib.Core.Logic.{_≢_}
-use Prim.Native.Nat.{_*_, _^_}
+use Prim.Native.Nat.{_*_, _^_, _-_}
 use native.Mathlib.Omega.{arith}
 use borrow.Author.Needs.{needs}
 use lib.Dec.{lit≤}
-use Rattle.posit.specs.Pattern.{nar, unsigned, size}
+use Rattle.posit.specs.Pattern.{nar, unsigned, size, unit}
 use Rattle.posit.specs.Exact.{ratio}
 use Rattle.posit.specs.Rounding.{round, signed}
 use Rattle.posit.proofs.Operation.{neither-nar, quotient-nar}
 use Rattle.posit.proofs.Quotient.{quotient-by-zero, quotient-of-zero, quotient-real}
+use Rattle.rounding.specs.Packed.{packedUnit}
 use Rattle.rounding.proofs.Machine.{differ-is}
 use Rattle.unpacking.specs.Scaled.{scaledUnit}
 use Rattle.division.proofs.div.Statement.{statement}
@@ -48,8 +49,8 @@ returns-4 c =
     let k = neither (c .before .before .before) in
     let a = c .before .before .before .before .before .args in
     c .div-sizes .ensures
-    ∙ ap (λ (n : Bool). signed 31 n (round 2 31 1086 (ratio (size 2 31 scaledUnit (unsigned 31 (a .p)) * 2 ^ 1086) (size 2 31 scaledUnit (unsigned 31 (a .q)))))) (differ-is _ _)
-    ∙ sym (quotient-real 2 31 (a .p) (a .q) (k .0) (k .1) (omega arith) (omega arith) (omega arith) (omega arith) (lit≤ tt) 846 scaledUnit (lit≤ tt))
+    ∙ ap (λ (n : Bool). signed 31 n (round 2 31 packedUnit (ratio (size 2 31 scaledUnit (unsigned 31 (a .p)) * 2 ^ packedUnit) (size 2 31 scaledUnit (unsigned 31 (a .q)))))) (differ-is _ _)
+    ∙ sym (quotient-real 2 31 (a .p) (a .q) (k .0) (k .1) (omega arith) (omega arith) (omega arith) (omega arith) (lit≤ tt) (packedUnit - unit 2 31) scaledUnit (lit≤ tt))
 
 pub div-spec : {M : Type 1} → statement M
 div-spec = tie.close (tie.spec either-nar-requires returns returns-2 returns-3 div-sizes-requires returns-4)

@@ -10,7 +10,7 @@ use lib.Pow.{shl-exact}
 use Rattle.posit.specs.Pattern.{unsigned, size}
 use Rattle.posit.specs.Exact.{whole, ratio}
 use Rattle.posit.specs.Rounding.{round, signed}
-use Rattle.rounding.specs.Packed.{packedSize}
+use Rattle.rounding.specs.Packed.{packedSize, packedUnit}
 use Rattle.unpacking.specs.Scaled.{scaledUnit, Scales}
 use Rattle.division.proofs.Divided.{ratio-rounds}
 use Rattle.division.proofs.div_sizes.Statement.{statement}
@@ -50,20 +50,20 @@ module _ {a b c e g d : ℕ} (x : Scales a c g) (y : Scales b e d) where
   high-small : high ≤ 1
   high-small = omega (arith, quotient-high)
 
-  rounds : round 2 31 1086 (whole (packedSize (1023 + high + c - e) (dividend / d * 2 ^ (30 - high) % 2 ^ 64) (ltb 0 (dividend % d))))
-      ≡ round 2 31 1086 (ratio (size 2 31 scaledUnit a * 2 ^ 1086) (size 2 31 scaledUnit b))
+  rounds : round 2 31 packedUnit (whole (packedSize (1023 + high + c - e) (dividend / d * 2 ^ (30 - high) % 2 ^ 64) (ltb 0 (dividend % d))))
+      ≡ round 2 31 packedUnit (ratio (size 2 31 scaledUnit a * 2 ^ packedUnit) (size 2 31 scaledUnit b))
   rounds =
       let scale = 1023 + high + c - e in
       let place = leading-place (dividend / d) quotient-low quotient-high in
       let at : 30 - high ≡ 61 - (31 + high) = omega (arith, high-small) in
       let moved : dividend / d * 2 ^ (30 - high) % 2 ^ 64 ≡ dividend / d * 2 ^ (61 - (31 + high)) =
       shl-exact 33 (30 - high) 64 quotient-high (omega arith) ∙ ap (λ (k : ℕ). dividend / d * 2 ^ k) at in
-      ap (λ (f : ℕ). round 2 31 1086 (whole (packedSize scale f (ltb 0 (dividend % d))))) moved
+      ap (λ (f : ℕ). round 2 31 packedUnit (whole (packedSize scale f (ltb 0 (dividend % d))))) moved
       ∙ sym
       (ratio-rounds g d c e (omega arith) divisor-positive (omega arith) dividend dividend-is (31 + high) scale (omega arith) (omega (arith, high-small)) (omega (arith, high-small))
       (place .0)
       (place .1))
-      ∙ sym (ap₂ (λ (n m : ℕ). round 2 31 1086 (ratio (n * 2 ^ 1086) m)) (x .size-is) (y .size-is))
+      ∙ sym (ap₂ (λ (n m : ℕ). round 2 31 packedUnit (ratio (n * 2 ^ packedUnit) m)) (x .size-is) (y .size-is))
 
 -- what the two patterns are taken apart into
 dividend-scales : (k : tie.After-scaled-of2) → let a = k .before .before .args .a in Scales (unsigned 31 a) (k .before .scaled-of .result .scale) (k .before .scaled-of .result .significand)

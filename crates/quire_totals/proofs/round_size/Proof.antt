@@ -1,4 +1,4 @@
--- `round_size` meets its contract: the number in the units of `pack` lies from its first digits up to the next such number (`wide-rounds`).
+-- `round_size` meets its contract: the number in the units of `pack` counts its first digits (`wide-rounds`).
 use mathlib.Core.Path.{_≡_, refl, sym, ap, _∙_}
 use mathlib.Core.Bool.{Bool}
 use Prim.Native.Nat.{ℕ, suc, _+_, _*_, _/_, _%_, _^_, _≤_, _<_}
@@ -14,24 +14,24 @@ use Rattle.posit.specs.Rounding.{round, rounded, signed}
 use Rattle.posit.proofs.Signs.{withSign, scaled-sign}
 use Rattle.posit.proofs.Finer.{rounded-finer}
 use Rattle.posit.proofs.Value.{rounded-signed}
-use Rattle.rounding.specs.Packed.{packedSize}
-use Rattle.rounding.proofs.Machine.{digit-is}
-use Rattle.exact_terms.proofs.Wide.{wide-rounds}
+use Rattle.posit.specs.Pattern.{unit}
+use Rattle.rounding.proofs.Terms.{finerBy}
+use Rattle.rounding.specs.Packed.{packedSize, packedUnit}
 use Rattle.quire_words.specs.Words.{wide}
-use Rattle.quire_totals.specs.Leading.{Leads}
+use Rattle.exact_terms.proofs.Wide.{wide-rounds, Leads}
 use Rattle.quire_words.proofs.Places.{digit-le}
 use Rattle.quire_totals.proofs.round_size.Statement.{statement}
 use Rattle.quire_totals.proofs.round_size.Tie as tie
 
 leads-rounded : (s : Bool) (x u d : ℕ) (more : Bool) → 0 < x → Leads x u d more
-    → rounded 2 31 240 (withSign s x) ≡ signed 31 s (round 2 31 1086 (whole (packedSize (u + 1) (d / 4) (ltb 0 (d % 4 + boolByte more)))))
+    → rounded 2 31 (unit 2 31) (withSign s x) ≡ signed 31 s (round 2 31 packedUnit (whole (packedSize (u + 1) (d / 4) (ltb 0 (d % 4 + boolByte more)))))
 leads-rounded s x u d more p l =
-    let sound = mul-pos p (pow-pos 846) in
-    rounded-finer 2 31 240 846 (lit≤ tt) (withSign s x)
-    ∙ ap (rounded 2 31 1086) (scaled-sign s x (2 ^ 846))
-    ∙ rounded-signed 2 31 1086 s (x * 2 ^ 846) sound
-    ∙ ap (signed 31 s) (rw (mul-one, sub-zero, ← digit-is more) at
-    (wide-rounds d 0 u (rw mul-one (l .top)) (rw mul-one (l .word)) (omega arith) (whole (x * 2 ^ 846)) sound more (record { low = l .low; high = l .high }) (sym (l .more-is)) (λ _. le-trans (lit≤ tt) (l .top))))
+    let sound = mul-pos p (pow-pos finerBy) in
+    rounded-finer 2 31 (unit 2 31) finerBy (lit≤ tt) (withSign s x)
+    ∙ ap (rounded 2 31 packedUnit) (scaled-sign s x (2 ^ finerBy))
+    ∙ rounded-signed 2 31 packedUnit s (x * 2 ^ finerBy) sound
+    ∙ ap (signed 31 s) (rw (mul-one, sub-zero) at
+    (wide-rounds d 0 u (rw mul-one (l .top)) (rw mul-one (l .word)) (omega arith) (whole (x * 2 ^ finerBy)) sound more (l .counts) (λ _. le-trans (lit≤ tt) (l .top))))
 
 first-digits-requires : tie.Need-first-digits-requires
 first-digits-requires c κs = search needs

@@ -9,6 +9,7 @@ use lib.IntN.{ℤ, pos}
 use Rattle.posit.specs.Rounding.{rounded}
 use Rattle.posit.specs.Accumulator.{State, notReal, total, toPosit}
 use Rattle.posit.proofs.Signs.{withSign}
+use Rattle.posit.specs.Pattern.{unit}
 use Rattle.quire_words.specs.Words.{wide}
 use Rattle.quire_words.proofs.Places.{words-typed, wide-typed}
 use Rattle.quire_words.proofs.First.{sign-seen}
@@ -26,7 +27,7 @@ module _ {q : State} where
   unfolding toPosit
   rounds-nar e = rw e
 
-  rounds-real : {t : ℤ} → q ≡ total t → toPosit 2 31 q ≡ rounded 2 31 240 t
+  rounds-real : {t : ℤ} → q ≡ total t → toPosit 2 31 q ≡ rounded 2 31 (unit 2 31) t
   unfolding toPosit
   rounds-real e = rw e
 
@@ -69,7 +70,7 @@ returns-3 c =
     let w = words-typed 8 q (k .good .0) in
     let real = read-real q (eqb-false (wide q) (2 ^ 511) (sym (c .before .before .before .is-alone2 .ensures) ∙ c .before .before .if2 .left)) in
     c .round-size .ensures
-    ∙ ap (rounded 2 31 240)
+    ∙ ap (rounded 2 31 (unit 2 31))
     (ap₂ withSign (sign-seen q (w .0) (w .1)) (c .before .size-of .ensures) ∙ sign-and-size (2 ^ 511) (wide q) (wide-typed q (k .good .0)))
     ∙ sym (rounds-real real)
 

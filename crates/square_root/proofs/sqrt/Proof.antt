@@ -1,4 +1,4 @@
--- `sqrt` meets its contract: with the scale halved, the whole root r of the significand's number n spans the exact root (`root-packs`), and n times
+-- `sqrt` meets its contract: with the scale halved, the whole root r of the significand's number n counts the exact root (`root-packs`), and n times
 -- the square of a power of two is the number whose root is asked for (`root-in-units`).
 use mathlib.Core.Path.{_≡_, refl, sym, ap, subst, _∙_}
 use mathlib.Core.Bool.{false}
@@ -8,17 +8,16 @@ use native.Mathlib.Omega.{arith}
 use borrow.Author.Needs.{needs}
 use lib.Dec.{ltb, lit≤}
 use lib.Pow.{pow-mono, shl-lt, shl-exact}
-use Rattle.posit.specs.Pattern.{Positive}
+use Rattle.posit.specs.Pattern.{Positive, unit}
 use Rattle.posit.specs.Exact.{whole, root}
 use Rattle.posit.specs.Rounding.{round, signed}
 use Rattle.posit.specs.Operation.{squareRoot}
-use Rattle.posit.proofs.Compare.{told-lt-back, finer, finer-sound, finer-at-least, finer-under, finer-above}
+use Rattle.posit.proofs.Compare.{told-lt-back, Counts, finer, finer-sound, finer-at-least, finer-under, finer-above}
 use Rattle.posit.proofs.Unsigned.{unsigned-below}
-use Rattle.posit.proofs.Packing.{Spans}
 use Rattle.posit.proofs.Root.{same-powers, root-of-zero, root-of-none, root-in-units}
-use Rattle.rounding.specs.Packed.{asDigit, packedSize}
+use Rattle.rounding.specs.Packed.{packedUnit, packedSize}
 use Rattle.unpacking.specs.Scaled.{scaledUnit, Scales}
-use Rattle.rounding.proofs.Packed.{stands-for}
+use Rattle.rounding.proofs.Packed.{significand-stands-for}
 use Rattle.square_root.proofs.sqrt.Statement.{statement}
 use Rattle.square_root.proofs.sqrt.Tie as tie
 
@@ -30,18 +29,12 @@ module _ (n r : ℕ) (least : 2 ^ 62 ≤ n) (fits : n < 2 ^ 64) (low : r * r ≤
       let under : r < 2 ^ 32 = told-lt-back (root n) (omega arith) {v = r} {z = 2 ^ 32} (omega arith) in
       (omega arith, under)
 
-  root-packs : (c : ℕ) → round 2 31 1086 (finer (c + 31) (root n)) ≡ round 2 31 1086 (whole (packedSize c (r * 2 ^ 30 % 2 ^ 64) (ltb (r * r) n)))
+  root-packs : (c : ℕ) → round 2 31 packedUnit (finer (c + 31) (root n)) ≡ round 2 31 packedUnit (whole (packedSize c (r * 2 ^ 30 % 2 ^ 64) (ltb (r * r) n)))
   root-packs c =
-      let exact = finer (c + 31) (root n) in
-      let here : 2 ^ 31 + (r - 2 ^ 31) ≡ r = omega (arith, root-range .0) in
-      let next : 2 ^ 31 + suc (r - 2 ^ 31) ≡ suc r = omega (arith, root-range .0) in
-      let power : c + 62 - 31 ≡ c + 31 = omega arith in
-      let spans : Spans exact 31 (r - 2 ^ 31) (c + 62 - 31) =
-      record { low = rw (here, power) (finer-at-least (c + 31) (root n) r low); high = rw (next, power) (finer-under (c + 31) (root n) (suc r) high) } in
-      let digits : (r - 2 ^ 31) * 2 ^ 30 % 2 ^ 61 ≡ r * 2 ^ 30 % 2 ^ 64 % 2 ^ 61 = omega (arith, root-range .0, root-range .1) in
-      stands-for exact (finer-sound (c + 31) (root n) (omega arith)) 31 (lit≤ tt) (lit≤ tt) c (r - 2 ^ 31) (omega (arith, root-range .1)) spans (ltb (r * r) n)
-      (rw (here, power) (finer-above (c + 31) (root n) r))
-      ∙ ap (λ (F : ℕ). round 2 31 1086 (whole ((2 * (2 ^ 61 + F) + asDigit (ltb (r * r) n)) * 2 ^ c))) digits
+      let counts : Counts (finer (c + 31) (root n)) r (2 ^ (c + 31)) (ltb (r * r) n) =
+      record { low = finer-at-least (c + 31) (root n) r low; high = finer-under (c + 31) (root n) (suc r) high; seen = finer-above (c + 31) (root n) r } in
+      significand-stands-for (finer (c + 31) (root n)) (finer-sound (c + 31) (root n) (omega arith)) 31 (lit≤ tt) (lit≤ tt) c r (c + 31) (omega arith) (root-range .0) (root-range .1) (ltb (r * r) n) counts
+      ∙ ap (λ (F : ℕ). round 2 31 packedUnit (whole (packedSize c F (ltb (r * r) n)))) (sym (shl-exact 32 30 64 (root-range .1) (omega arith)))
 
 -- b is g * 2 ^ c units of 2 ^ - scaledUnit: g is shifted by 32, or 33 where c is odd
 module _ (b c g : ℕ) (k : Positive 31 b) (s : Scales b c g) where
@@ -57,15 +50,15 @@ module _ (b c g : ℕ) (k : Positive 31 b) (s : Scales b c g) where
   number-fits : number < 2 ^ 64
   number-fits = lt-of-lt-of-le (shl-lt 31 (32 + c % 2) (s .in-scale .below)) (pow-mono {i = 31 + (32 + c % 2)} {j = 64} (omega arith))
 
-  -- the root that is asked for, in units of 2 ^ - 1086
-  root-is : squareRoot 2 31 b ≡ round 2 31 1086 (finer (c / 2 + 964 + 31) (root number))
+  -- the root that is asked for, in the unit of `pack`
+  root-is : squareRoot 2 31 b ≡ round 2 31 packedUnit (finer (c / 2 + 964 + 31) (root number))
   root-is =
-      root-in-units 2 31 b k (lit≤ tt) 846 scaledUnit 2022 (lit≤ tt) refl
-      ∙ ap (λ (z : ℕ). round 2 31 1086 (root (z * 2 ^ 2022))) (s .size-is)
-      ∙ ap (λ (x : ℕ). round 2 31 1086 (root x)) (sym (same-powers g (32 + c % 2) (c / 2 + 964 + 31) c 2022 (omega arith)))
+      root-in-units 2 31 b k (lit≤ tt) (packedUnit - unit 2 31) scaledUnit (2 * packedUnit - scaledUnit) (lit≤ tt) refl
+      ∙ ap (λ (z : ℕ). round 2 31 packedUnit (root (z * 2 ^ (2 * packedUnit - scaledUnit)))) (s .size-is)
+      ∙ ap (λ (x : ℕ). round 2 31 packedUnit (root x)) (sym (same-powers g (32 + c % 2) (c / 2 + 964 + 31) c (2 * packedUnit - scaledUnit) (omega arith)))
 
   root-rounded : (r q : ℕ) → r * r ≤ number % 2 ^ 64 → number % 2 ^ 64 < suc r * suc r
-      → q ≡ signed 31 false (round 2 31 1086 (whole (packedSize (c / 2 + 964) (r * 2 ^ 30 % 2 ^ 64) (ltb (r * r) (number % 2 ^ 64)))))
+      → q ≡ signed 31 false (round 2 31 packedUnit (whole (packedSize (c / 2 + 964) (r * 2 ^ 30 % 2 ^ 64) (ltb (r * r) (number % 2 ^ 64)))))
       → q ≡ squareRoot 2 31 b
   unfolding signed
   root-rounded r q low high packed =

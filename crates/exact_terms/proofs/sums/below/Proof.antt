@@ -8,7 +8,7 @@ use borrow.Author.Tests.{lt-ltb, le-ltb}
 use lib.Dec.{ltb}
 use lib.Pow.{pow-pos}
 use Rattle.posit.proofs.Compare.{ltb-factor}
-use Rattle.exact_terms.specs.Terms.{Normal}
+use Rattle.rounding.proofs.Terms.{Normal}
 use Rattle.exact_terms.proofs.Added.{by-scale}
 use Rattle.exact_terms.proofs.sums.below.Statement.{statement}
 use Rattle.exact_terms.proofs.sums.below.Tie as tie

@@ -5,8 +5,7 @@ use Prim.Native.Nat.{ℕ, _+_, _-_}
 use native.Mathlib.Omega.{arith}
 use borrow.Author.Needs.{needs}
 use mir.Val.{boolByte}
-use Rattle.exact_terms.specs.Sums.{combine}
-use Rattle.rounding.proofs.Machine.{digit-is}
+use Rattle.rounding.proofs.Terms.{combine}
 use Rattle.exact_terms.proofs.sums.combined.Statement.{statement}
 use Rattle.exact_terms.proofs.sums.combined.Tie as tie
 
@@ -20,7 +19,7 @@ cast-result : tie.Need-cast-result
 cast-result c = search needs
 
 sub-result-2 : tie.Need-sub-result-2
-sub-result-2 c = omega (arith, digit-is (c .before .args .lost))
+sub-result-2 c = omega arith
 
 returns : tie.Need-returns
 returns c =
@@ -30,8 +29,7 @@ returns c =
 returns-2 : tie.Need-returns-2
 returns-2 c =
     let a = c .before .args in
-    subst (λ (s : Bool). a .g - a .kept - boolByte (a .lost) ≡ combine s (a .g) (a .kept) (a .lost)) (sym (c .if1 .left))
-    (ap (λ (d : ℕ). a .g - a .kept - d) (digit-is (a .lost)))
+    subst (λ (s : Bool). a .g - a .kept - boolByte (a .lost) ≡ combine s (a .g) (a .kept) (a .lost)) (sym (c .if1 .left)) refl
 
 pub combined-spec : {M : Type 1} → statement M
 combined-spec = tie.close (tie.spec add-result sub-result cast-result sub-result-2 returns returns-2)

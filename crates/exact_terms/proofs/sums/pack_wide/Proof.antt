@@ -7,11 +7,12 @@ use borrow.Author.Needs.{needs}
 use lib.Count.{leadingZeros}
 use lib.Dec.{ltb}
 use lib.Pow.{pow-pos}
+use mir.Val.{boolByte}
 use Rattle.posit.specs.Exact.{whole}
 use Rattle.posit.specs.Rounding.{round, signed}
 use Rattle.posit.proofs.Arith.{pow-sum}
-use Rattle.rounding.specs.Packed.{packedSize}
-use Rattle.rounding.proofs.Machine.{digit-is, digit-lt}
+use Rattle.rounding.specs.Packed.{packedSize, packedUnit}
+use Rattle.rounding.proofs.Machine.{digit-lt}
 use Rattle.exact_terms.proofs.Wide.{normalised, wide-rounds}
 use Rattle.exact_terms.proofs.sums.pack_wide.Statement.{statement}
 use Rattle.exact_terms.proofs.sums.pack_wide.Tie as tie
@@ -38,16 +39,16 @@ pack-requires : tie.Need-pack-requires
 pack-requires c κs = search needs
 
 returns : tie.Need-returns
-returns c = λ x sound near sticky.
+returns c = λ x sound counts.
     let a = c .before .args in
     let z = leadingZeros 64 (a .n) in
     let k = normalised (a .n) (c .before .pre .0) (c .before .fits .n .fits) in
     let word : a .n * 2 ^ z % 2 ^ 64 ≡ a .n * 2 ^ z = mod-eq-of-lt (k .2) in
-    let more = ap₂ (λ (m d : ℕ). ltb 0 (m % 4 + d)) word (digit-is (a .sticky)) in
+    let more = ap (λ (m : ℕ). ltb 0 (m % 4 + boolByte (a .sticky))) word in
     c .pack .ensures
-    ∙ ap₂ (λ g s. signed 31 (a .negative) (round 2 31 1086 (whole (packedSize (a .scale + 1 - z) (g / 4) s)))) word more
+    ∙ ap₂ (λ g s. signed 31 (a .negative) (round 2 31 packedUnit (whole (packedSize (a .scale + 1 - z) (g / 4) s)))) word more
     ∙ ap (signed 31 (a .negative))
-    (sym (wide-rounds (a .n) z (a .scale) (k .1) (k .2) (omega (arith, k .0, c .before .pre .2)) x sound (a .sticky) near sticky (c .before .pre .1)))
+    (sym (wide-rounds (a .n) z (a .scale) (k .1) (k .2) (omega (arith, k .0, c .before .pre .2)) x sound (a .sticky) counts (c .before .pre .1)))
 
 pub pack-wide-spec : {M : Type 1} → statement M
 pack-wide-spec = tie.close (tie.spec cast-m shl-m add-pack sub-pack cast-pack add-pack-2 pack-requires returns)

@@ -6,25 +6,28 @@ use native.Mathlib.Nat.{le-of-lt}
 use borrow.Author.Needs.{needs}
 use borrow.Author.Tests.{ltb-true, ltb-false}
 use lib.Dec.{ltb}
-use lib.IntN.{_+ℤ_, +ℤ-comm}
+use lib.IntN.{ℤ, _+ℤ_, +ℤ-comm}
 use Rattle.posit.specs.Rounding.{rounded}
+use Rattle.rounding.specs.Packed.{packedUnit}
 use Rattle.exact_terms.specs.declared.terms.Term.{Term}
-use Rattle.exact_terms.specs.Terms.{Normal}
-use Rattle.exact_terms.specs.Sums.{magnitude, number}
+use Rattle.rounding.proofs.Terms.{Normal, magnitude, term}
 use Rattle.exact_terms.proofs.sums.sum_of.Statement.{statement}
 use Rattle.exact_terms.proofs.sums.sum_of.Tie as tie
 
+abbrev worth : Term → ℤ
+worth t = term (t .negative) (t .scale) (t .significand)
+
 -- what `sum_ordered` asks
 abbrev Ordered : Term → Term → Type 0
-Ordered high low = Normal (high .scale) (high .significand) × Normal (low .scale) (low .significand) × (magnitude low ≤ magnitude high)
+Ordered high low = Normal (high .scale) (high .significand) × Normal (low .scale) (low .significand) × (magnitude (low .scale) (low .significand) ≤ magnitude (high .scale) (high .significand))
 
 module _ (x y : Term) where
-  ordered : Normal (x .scale) (x .significand) → Normal (y .scale) (y .significand) → (b : Bool) → b ≡ ltb (magnitude x) (magnitude y) → Ordered (cond b y x) (cond b x y)
-  ordered p q true e = (q, p, le-of-lt (ltb-true (magnitude x) (magnitude y) (sym e)))
-  ordered p q false e = (p, q, ltb-false (magnitude x) (magnitude y) (sym e))
+  ordered : Normal (x .scale) (x .significand) → Normal (y .scale) (y .significand) → (b : Bool) → b ≡ ltb (magnitude (x .scale) (x .significand)) (magnitude (y .scale) (y .significand)) → Ordered (cond b y x) (cond b x y)
+  ordered p q true e = (q, p, le-of-lt (ltb-true (magnitude (x .scale) (x .significand)) (magnitude (y .scale) (y .significand)) (sym e)))
+  ordered p q false e = (p, q, ltb-false (magnitude (x .scale) (x .significand)) (magnitude (y .scale) (y .significand)) (sym e))
 
-  same-sum : (b : Bool) → number (cond b y x) +ℤ number (cond b x y) ≡ number x +ℤ number y
-  same-sum true = +ℤ-comm (number y) (number x)
+  same-sum : (b : Bool) → worth (cond b y x) +ℤ worth (cond b x y) ≡ worth x +ℤ worth y
+  same-sum true = +ℤ-comm (worth y) (worth x)
   same-sum false = refl
 
 below-requires : tie.Need-below-requires
@@ -49,8 +52,8 @@ returns c =
     let x = k .args .x in
     let y = k .args .y in
     c .sum-ordered .ensures
-    ∙ ap (rounded 2 31 1086)
-    (ap₂ (λ (h l : Term). number h +ℤ number l) (c .before .before .chosen .ensures) (c .before .chosen2 .ensures) ∙ same-sum x y (c .before .before .before .below .result))
+    ∙ ap (rounded 2 31 packedUnit)
+    (ap₂ (λ (h l : Term). worth h +ℤ worth l) (c .before .before .chosen .ensures) (c .before .chosen2 .ensures) ∙ same-sum x y (c .before .before .before .below .result))
 
 pub sum-of-spec : {M : Type 1} → statement M
 sum-of-spec = tie.close (tie.spec below-requires chosen-requires chosen-requires-2 sum-ordered-requires returns)

@@ -10,8 +10,9 @@ use Rattle.posit.specs.Exact.{whole}
 use Rattle.posit.specs.Rounding.{rounded}
 use Rattle.posit.proofs.Signs.{withSign}
 use Rattle.posit.proofs.Value.{rounded-signed}
-use Rattle.rounding.specs.Packed.{asDigit}
-use Rattle.exact_terms.specs.Sums.{magnitude, combine}
+use Rattle.rounding.specs.Packed.{packedUnit}
+use mir.Val.{boolByte}
+use Rattle.rounding.proofs.Terms.{magnitude, combine}
 use Rattle.exact_terms.proofs.Added.{greater-scale, less, room, total, Found, found, nothing, sum-total, none-rounded}
 use Rattle.exact_terms.proofs.sums.sum_ordered.Statement.{statement}
 use Rattle.exact_terms.proofs.sums.sum_ordered.Tie as tie
@@ -33,7 +34,7 @@ combined-requires c κs =
     let l = k .args .low in
     let a = c .before .before .align .ensures in
     let d = h .scale - l .scale in (
-      subst₂ (λ q b. q + asDigit b ≤ h .significand) (sym (a .0)) (sym (a .1))
+      subst₂ (λ q b. q + boolByte b ≤ h .significand) (sym (a .0)) (sym (a .1))
           (room (h .significand) (l .significand) (2 ^ d) (pow-pos d) (less (h .scale) (h .significand) (l .scale) (l .significand) (k .pre .0) (k .pre .1) (k .pre .2))),
       k .pre .0 .below,
     )
@@ -63,13 +64,13 @@ returns c =
     let same = Bool·beq (h .negative) (l .negative) in
     let none = nothing (h .scale) (h .significand) (l .scale) (l .significand) (k .pre .0) (k .pre .1) (k .pre .2) same _ _ (found-here (c .before)) (c .if1 .taken) in
     sym
-    (ap (rounded 2 31 1086) (sum-total (h .negative) (l .negative) (magnitude h) (magnitude l) (k .pre .2) ∙ ap (withSign (h .negative)) none)
+    (ap (rounded 2 31 packedUnit) (sum-total (h .negative) (l .negative) (magnitude (h .scale) (h .significand)) (magnitude (l .scale) (l .significand)) (k .pre .2) ∙ ap (withSign (h .negative)) none)
     ∙ none-rounded (h .negative))
 
 pack-wide-requires : tie.Need-pack-wide-requires
 pack-wide-requires c κs =
     let k = c .before .before .before .before .before .before .before in
-    (omega arith, found-here (c .before) .2, omega (arith, k .pre .0 .low), omega (arith, k .pre .0 .high))
+    (omega arith, found-here (c .before) .1, omega (arith, k .pre .0 .low), omega (arith, k .pre .0 .high))
 
 returns-2 : tie.Need-returns-2
 returns-2 c =
@@ -77,11 +78,11 @@ returns-2 c =
     let h = k .args .high in
     let l = k .args .low in
     let f = found-here (c .before .before) in
-    let N = total (Bool·beq (h .negative) (l .negative)) (magnitude h) (magnitude l) in
+    let N = total (Bool·beq (h .negative) (l .negative)) (magnitude (h .scale) (h .significand)) (magnitude (l .scale) (l .significand)) in
     let positive : 0 < N = lt-of-lt-of-le (mul-pos (omega arith) (pow-pos (h .scale))) (f .0 .low) in
-    c .pack-wide .ensures (whole N) positive (f .0) (f .1)
-    ∙ sym (rounded-signed 2 31 1086 (h .negative) N positive)
-    ∙ ap (rounded 2 31 1086) (sym (sum-total (h .negative) (l .negative) (magnitude h) (magnitude l) (k .pre .2)))
+    c .pack-wide .ensures (whole N) positive (f .0)
+    ∙ sym (rounded-signed 2 31 packedUnit (h .negative) N positive)
+    ∙ ap (rounded 2 31 packedUnit) (sym (sum-total (h .negative) (l .negative) (magnitude (h .scale) (h .significand)) (magnitude (l .scale) (l .significand)) (k .pre .2)))
 
 pub sum-ordered-spec : {M : Type 1} → statement M
 sum-ordered-spec = tie.close (tie.spec sub-align align-requires combined-requires returns pack-wide-requires returns-2)

@@ -1,18 +1,18 @@
 -- `multiplied` meets its contract: the product is moved up until its leading one is at bit 62.
 use mathlib.Core.Path.{_≡_, refl, sym, subst}
-use Prim.Native.Nat.{ℕ, _+_, _*_, _%_, _^_, _<_}
+use Prim.Native.Nat.{ℕ, _+_, _*_, _%_, _^_, _<_, _-_}
 use native.Mathlib.Nat.{mod-eq-of-lt}
 use native.Mathlib.Omega.{arith}
 use Rattle.posit.proofs.Arith.{same-power}
-use Rattle.exact_terms.specs.Terms.{Normal, Multiplied}
+use Rattle.rounding.proofs.Terms.{Normal, Multiplied, finerBy}
 use Rattle.exact_terms.proofs.Exactly.{product-bounds}
 use borrow.Author.Needs.{needs}
 use Rattle.exact_terms.proofs.terms.multiplied.Statement.{statement}
 use Rattle.exact_terms.proofs.terms.multiplied.Tie as tie
 
 -- moved up by l digits, with the scale lowered by as many
-up : (n d l c : ℕ) → l + c ≡ d + 786 → n * 2 ^ l < 2 ^ 64 → Normal c (n * 2 ^ l) → Multiplied n d c (n * 2 ^ l % 2 ^ 64)
-up n d l c e h k = subst (Multiplied n d c) (sym (mod-eq-of-lt h)) (record { same = same-power n l c d 786 e; normal = k })
+up : (n d l c : ℕ) → l + c ≡ d + (finerBy - 60) → n * 2 ^ l < 2 ^ 64 → Normal c (n * 2 ^ l) → Multiplied n d c (n * 2 ^ l % 2 ^ 64)
+up n d l c e h k = subst (Multiplied n d c) (sym (mod-eq-of-lt h)) (record { same = same-power n l c d (finerBy - 60) e; normal = k })
 
 mul-n : tie.Need-mul-n
 mul-n c =

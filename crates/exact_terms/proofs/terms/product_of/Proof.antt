@@ -4,7 +4,7 @@ use mathlib.Core.Bool.{Bool}
 use native.Mathlib.Omega.{arith}
 use Rattle.posit.specs.Pattern.{isNegative}
 use Rattle.posit.specs.Operation.{exactProduct}
-use Rattle.exact_terms.specs.Terms.{IsTerm}
+use Rattle.rounding.proofs.Terms.{IsTerm}
 use Rattle.rounding.proofs.Machine.{differ-is}
 use Rattle.exact_terms.proofs.Exactly.{product-term}
 use Rattle.exact_terms.proofs.terms.product_of.Statement.{statement}

@@ -5,7 +5,7 @@ use native.Mathlib.Nat.{mod-eq-of-lt}
 use native.Mathlib.Omega.{arith}
 use Rattle.posit.specs.Pattern.{isNegative}
 use Rattle.posit.specs.Operation.{exact}
-use Rattle.exact_terms.specs.Terms.{IsTerm}
+use Rattle.rounding.proofs.Terms.{IsTerm}
 use Rattle.exact_terms.proofs.Exactly.{posit-term}
 use borrow.Author.Needs.{needs}
 use Rattle.exact_terms.proofs.terms.term_of.Statement.{statement}

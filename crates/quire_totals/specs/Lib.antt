@@ -1,2 +1,0 @@
--- What the inner contracts of this crate mean.
-pub mod Leading
