@@ -13,7 +13,7 @@ use lib.Dec.{lit<}
 use lib.ListN.{length, getD, set, length-set}
 use lib.Pow.{pow-pos, pow-add}
 use lib.Seq.{ext-getD, getD-set-same, getD-set-other}
-use Rattle.posit.specs.Digits.{digits, number, Below}
+use Rattle.posit.specs.Digits.{digits, number, InBase}
 use Rattle.posit.specs.Accumulator.{State, bitsOf, image, words, fromWords}
 use Rattle.posit.proofs.Arith.{pow-sum, pow-mul}
 use Rattle.posit.proofs.Digits.{length-digits, digits-number}
@@ -53,7 +53,7 @@ byte-of-word n j k hj hk =
     ∙ ap (λ (m : ℕ). m % 256) (div-div-eq-div-mul n ((2 ^ 64) ^ (7 - j)) (2 ^ (56 - 8 * k)) ∙ ap (λ (m : ℕ). n / m) place)
 
 -- the same of eight words, at place i of the image
-pub byte-is : (ws : List ℕ) (i : ℕ) → length ws ≡ 8 → Below (2 ^ 64) ws → i < 64 → getD ws (i / 8) 0 / 2 ^ (56 - 8 * (i % 8)) % 256 ≡ wide ws / 256 ^ (63 - i) % 256
+pub byte-is : (ws : List ℕ) (i : ℕ) → length ws ≡ 8 → InBase (2 ^ 64) ws → i < 64 → getD ws (i / 8) 0 / 2 ^ (56 - 8 * (i % 8)) % 256 ≡ wide ws / 256 ^ (63 - i) % 256
 byte-is ws i e b h =
     let all : ws ≡ digits (2 ^ 64) 8 (wide ws) = sym (digits-number (2 ^ 64) (pow-pos 64) ws b) ∙ ap (λ (c : ℕ). digits (2 ^ 64) c (wide ws)) e in
     let places : 8 - suc (i / 8) ≡ 7 - i / 8 = omega arith in

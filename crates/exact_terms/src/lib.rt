@@ -4,9 +4,9 @@ mod terms; // terms.rt: posits and products as exact terms
 
 ghost use mathlib.Core.Path.{_≡_};
 ghost use Rattle.posit.specs.Operation.{sum, product, fusedSum};
-use sums::sum_of;
+use sums::term_sum;
 use terms::pack_term;
-use terms::product_of;
+use terms::term_product;
 use terms::term_of;
 use unpacking::NAR;
 use unpacking::either_nar;
@@ -24,7 +24,7 @@ pub fn add(p: u32, q: u32) -> u32
     if q == 0 {
         return p;
     }
-    sum_of(term_of(p), term_of(q))
+    term_sum(term_of(p), term_of(q))
 }
 
 pub fn mul(p: u32, q: u32) -> u32
@@ -39,7 +39,7 @@ pub fn mul(p: u32, q: u32) -> u32
     if q == 0 {
         return 0;
     }
-    pack_term(product_of(p, q, scaled_of(p), scaled_of(q)))
+    pack_term(term_product(p, q, scaled_of(p), scaled_of(q)))
 }
 
 // p·q + s
@@ -58,9 +58,9 @@ pub fn mul_add(p: u32, q: u32, s: u32) -> u32
     if q == 0 {
         return s;
     }
-    let t = product_of(p, q, scaled_of(p), scaled_of(q));
+    let t = term_product(p, q, scaled_of(p), scaled_of(q));
     if s == 0 {
         return pack_term(t);
     }
-    sum_of(t, term_of(s))
+    term_sum(t, term_of(s))
 }

@@ -13,11 +13,11 @@ ghost use Rattle.rounding.proofs.Terms.{Normal, magnitude, term, combine};
 use super::terms::Term;
 use rounding::pack;
 
-pub(crate) fn sum_of(x: Term, y: Term) -> u32
+pub(crate) fn term_sum(x: Term, y: Term) -> u32
     requires { ⌜ Normal (x .scale) (x .significand) × Normal (y .scale) (y .significand) ⌝ }
     ensures { λ r. ⌜ r ≡ rounded 2 31 packedUnit (term (x .negative) (x .scale) (x .significand) +ℤ term (y .negative) (y .scale) (y .significand)) ⌝ }
 {
-    let b = below(x, y);
+    let b = smaller(x, y);
     sum_ordered(chosen(b, y, x), chosen(b, x, y))
 }
 
@@ -29,7 +29,7 @@ fn chosen(first: bool, x: Term, y: Term) -> Term
 }
 
 // Whether x is the smaller of the two without their signs.
-fn below(x: Term, y: Term) -> bool
+fn smaller(x: Term, y: Term) -> bool
     requires { ⌜ Normal (x .scale) (x .significand) × Normal (y .scale) (y .significand) ⌝ }
     ensures { λ r. ⌜ r ≡ ltb (magnitude (x .scale) (x .significand)) (magnitude (y .scale) (y .significand)) ⌝ }
 {

@@ -33,7 +33,7 @@ pub(crate) fn term_of(p: u32) -> Term
 
 // The product of a and b, which x and y are the sizes of. The callers ask for these, since they know that neither pattern is zero or NaR: the tests of
 // `scaled_of` then cost nothing.
-pub(crate) fn product_of(a: u32, b: u32, x: Scaled, y: Scaled) -> Term
+pub(crate) fn term_product(a: u32, b: u32, x: Scaled, y: Scaled) -> Term
     requires { ⌜ Real a × Real b × IsScaled a (x .scale) (x .significand) × IsScaled b (y .scale) (y .significand) ⌝ }
     ensures { λ r. ⌜ IsTerm (exactProduct 2 31 a b) (r .negative) (r .scale) (r .significand) ⌝ }
 {

@@ -2,7 +2,7 @@
 --     Seat     where the core's lifetimes stand in a signature: `own-seat` in the core's own, `entry-seat` in the entry's, after that of what is lent
 --     slots, kepts, giving, spells, telling, fitting, going        what a signature and a walk (`Denote/Triple/Walked.antt`) ask of each parameter
 --     Values, Ends, values, put, ends      the arguments on entry and at exit with no seat in sight, and from and to the parameters at a seat
---     handed-over, over, given-up, told        what the entry owns of its arguments is what the core asks, and what the core says of them at exit is what the entry has to say
+--     handed-over, over, given-up, passed-back        what the entry owns of its arguments is what the core asks, and what the core says of them at exit is what the entry has to say
 --     tys, cells, fill, emptied        the arguments' locals, which are filled from what is passed, and given back
 use mathlib.Core.Path.{_≡_, refl, subst}
 use mathlib.Core.Bool.{true}
@@ -129,9 +129,9 @@ module _ {n : ℕ} where
     same-ends (X ∷ Xs) a ws = λ i. (endings entry-seat κs (X ∷ Xs) a (over (X ∷ Xs) a ws) .0, same-ends Xs (a .1) (ws .1) i)
 
     -- a fact that the core says is one about the entry's arguments
-    pub told : (Xs : List (Arg n)) (a : Denots (rows entry-seat κs Xs)) (ws : Lasts own-seat (κs .1) Xs (passed Xs a)) (φ : Values Xs → Ends Xs → Type 0)
+    pub passed-back : (Xs : List (Arg n)) (a : Denots (rows entry-seat κs Xs)) (ws : Lasts own-seat (κs .1) Xs (passed Xs a)) (φ : Values Xs → Ends Xs → Type 0)
         → φ (values own-seat (κs .1) Xs (passed Xs a)) (endings own-seat (κs .1) Xs (passed Xs a) ws) → φ (values entry-seat κs Xs a) (endings entry-seat κs Xs a (over Xs a ws))
-    told Xs a ws φ e = subst (φ (values entry-seat κs Xs a)) (same-ends Xs a ws) (subst (λ (m : Values Xs). φ m (endings own-seat (κs .1) Xs (passed Xs a) ws)) (values-put own-seat (κs .1) Xs (values entry-seat κs Xs a)) e)
+    passed-back Xs a ws φ e = subst (φ (values entry-seat κs Xs a)) (same-ends Xs a ws) (subst (λ (m : Values Xs). φ m (endings own-seat (κs .1) Xs (passed Xs a) ws)) (values-put own-seat (κs .1) Xs (values entry-seat κs Xs a)) e)
 
   -- ---- the entry's locals
   abbrev pub tys : List (Arg n) → List Ty

@@ -27,7 +27,7 @@ use denote.Triple.Clauses.{Ended, Clauses, closing}
 use Rattle.lend.proofs.Solid.{Solid, rowOf, vals, Fits, fitted}
 use Rattle.lend.proofs.Arg.{Arg, value}
 use Rattle.lend.proofs.Locals.{Blocks, rooms, Lie, lie-next, held-at, local-at}
-use Rattle.lend.proofs.Args.{own-seat, entry-seat, Values, Ends, slots, kepts, rows, machines, Fit, Lasts, said, values, put, ends, endings, passed, over, had, told, tys, cells, handed-over, given-up}
+use Rattle.lend.proofs.Args.{own-seat, entry-seat, Values, Ends, slots, kepts, rows, machines, Fit, Lasts, said, values, put, ends, endings, passed, over, had, passed-back, tys, cells, handed-over, given-up}
 use Rattle.lend.proofs.Again.{copies, lending, operands, again, load-all, dropped, lends}
 use Rattle.lend.proofs.Frame.{Frame, Laid, at as frameAt, args-at}
 use Rattle.lend.proofs.Field.{Holds, cell, place-is}
@@ -59,12 +59,12 @@ module _ {M : Type 1} {𝓤 : URA M} {H : Heap 𝓤} {A : Atoms 𝓤} {K : Type 
       → Seq K W (raw (toks 𝓤 A n κs qs) ∷ ‵ (owns (rows own-seat κs Ys) (put own-seat κs Ys m) (machines own-seat κs Ys (put own-seat κs Ys m))) ∷ Γ) (runs C Λ E (seq (call f xs d) rest) q)
   calls-core t fm Ys Z Ens known κs qs m {E} os k =
       let a : Denots (rows own-seat κs Ys) = put own-seat κs Ys m in
-      let Told : Z .D → Lasts own-seat κs Ys a → Type 0 = λ r ws. Ens (values own-seat κs Ys a) r (endings own-seat κs Ys a ws) in
+      let Ensured : Z .D → Lasts own-seat κs Ys a → Type 0 = λ r ws. Ens (values own-seat κs Ys a) r (endings own-seat κs Ys a ws) in
       join t $ nothing t $ move t (1 ∷ 0 ∷ []) $ join t $ use1 W (raw (Core Ys Z 𝓤 Ens H A .pre (at Ys Z 𝓤 Ens H A κs qs m))) (id⊢ 𝓤 _) $
       calls-at t fm (Core Ys Z 𝓤 Ens H A) known (at Ys Z 𝓤 Ens H A κs qs m) os (λ v.
-      use1 W (later (some (λ (r : Z .D). (raw (toks 𝓤 A n κs qs) ⊛ ‵ (Z .own r (v ∷ []))) ⊛ some (λ (ws : Lasts own-seat κs Ys a). ‵ (said own-seat κs Ys a ws) ⊛ raw (fact 𝓤 (Told r ws)))))) (id⊢ 𝓤 _) $
+      use1 W (later (some (λ (r : Z .D). (raw (toks 𝓤 A n κs qs) ⊛ ‵ (Z .own r (v ∷ []))) ⊛ some (λ (ws : Lasts own-seat κs Ys a). ‵ (said own-seat κs Ys a ws) ⊛ raw (fact 𝓤 (Ensured r ws)))))) (id⊢ 𝓤 _) $
       await t tt $ pick t (λ r. split t $ split t $ move t (1 ∷ []) $ facts t (rowOf Z) (Is (rowOf Z)) (shows 𝓤 H A (rowOf Z)) r (v ∷ []) (λ rel.
-      move t (1 ∷ []) $ pick t (λ ws. split t $ move t (1 ∷ []) $ heard t (Told r ws) (λ e. move t (1 ∷ 0 ∷ []) $
+      move t (1 ∷ []) $ pick t (λ ws. split t $ move t (1 ∷ []) $ heard t (Ensured r ws) (λ e. move t (1 ∷ 0 ∷ []) $
       subst (λ (u : Val). Seq K W (raw (toks 𝓤 A n κs qs) ∷ ‵ (said own-seat κs Ys a ws) ∷ Γ) (lands C Λ E d u rest q)) (sym (ap only (Z .tells r (v ∷ []) rel)))
       (k r ws e (fitted Z r (v ∷ []) rel)))))))
 
@@ -130,8 +130,8 @@ module _ {n : ℕ} {S F : Solid} (O : Holds S F) (Xs : List (Arg n)) where
 
     learned : (u : Hands) (w : F .D) (φ : Values (Handed u) → Ends (Handed u) → Type 0) (ws : Lasts own-seat (κs .1) (Handed u) (params u w)) → φ (values own-seat (κs .1) (Handed u) (params u w)) (endings own-seat (κs .1) (Handed u) (params u w) ws)
         → φ (handed u w m) (handed-ends u w (endings entry-seat κs Xs a (over κs Xs a (among u w ws))))
-    learned with-field w φ ws e = told κs Xs a (ws .1) (λ m′ e′. φ (w, m′) (w, e′)) e
-    learned without w φ ws e = told κs Xs a ws φ e
+    learned with-field w φ ws e = passed-back κs Xs a (ws .1) (λ m′ e′. φ (w, m′) (w, e′)) e
+    learned without w φ ws e = passed-back κs Xs a ws φ e
 
     module _ {M : Type 1} (𝓤 : URA M) (H : Heap 𝓤) (A : Atoms 𝓤) (W : Given 𝓤 H A) where
       asked : (u : Hands) (w : F .D) → Fits F w → ent 𝓤 (sem 𝓤 H A (owns (rows entry-seat κs Xs) a (machines entry-seat κs Xs a))) (sem 𝓤 H A (owns (rows own-seat (κs .1) (Handed u)) (params u w) (machines own-seat (κs .1) (Handed u) (params u w))))

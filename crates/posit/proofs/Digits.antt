@@ -9,14 +9,14 @@ use native.Mathlib.Omega.{arith}
 use lib.Dec.{T, eqb, eqb→eq}
 use lib.Arith.{digits-lt, digits-div, digits-mod}
 use lib.ListN.{length, drop}
-use Rattle.posit.specs.Digits.{digits, number, Below, same}
+use Rattle.posit.specs.Digits.{digits, number, InBase, same}
 
 pub length-digits : (B c n : ℕ) → length (digits B c n) ≡ c
 unfolding digits
 length-digits B zero n = refl
 length-digits B (suc c) n = ap suc (length-digits B c n)
 
-pub number-lt : (B : ℕ) (ds : List ℕ) → Below B ds → number B ds < B ^ length ds
+pub number-lt : (B : ℕ) (ds : List ℕ) → InBase B ds → number B ds < B ^ length ds
 unfolding number
 number-lt B [] h = rw pow-zero (omega arith)
 number-lt B (d ∷ ds) h = rw pow-suc' (digits-lt (h .0) (number-lt B ds (h .1)))
@@ -26,7 +26,7 @@ module _ (B : ℕ) (base : 0 < B) where
   power-pos zero = rw pow-zero (omega arith)
   power-pos (suc c) = rw pow-suc (mul-pos (power-pos c) base)
 
-  pub below-digits : (c n : ℕ) → Below B (digits B c n)
+  pub below-digits : (c n : ℕ) → InBase B (digits B c n)
   unfolding digits
   below-digits zero n = tt
   below-digits (suc c) n = (mod-lt (n / B ^ c) base, below-digits c n)
@@ -39,7 +39,7 @@ module _ (B : ℕ) (base : 0 < B) where
       rw (e, mul-add-div-right {m = B ^ c} (power-pos c) (q * B) v, mul-add-mod-self-right, digits-past c (q * B) v)
 
   -- the digits of a number that digits make up are those digits
-  pub digits-number : (ds : List ℕ) → Below B ds → digits B (length ds) (number B ds) ≡ ds
+  pub digits-number : (ds : List ℕ) → InBase B ds → digits B (length ds) (number B ds) ≡ ds
   unfolding digits number
   digits-number [] h = refl
   digits-number (d ∷ ds) h =

@@ -10,7 +10,7 @@ use borrow.Author.Tests.{eq-eqb, ne-eqb}
 use lib.IntN.{ℤ, pos, negsuc, natAbs}
 use lib.ListN.{length}
 use lib.Pow.{pow-pos}
-use Rattle.posit.specs.Digits.{digits, number, Below, complement}
+use Rattle.posit.specs.Digits.{digits, number, InBase, complement}
 use Rattle.posit.specs.Accumulator.{State, notReal, total, bitsOf, stateOf, words, fromWords, image, fromImage}
 use Rattle.posit.proofs.Digits.{number-lt, digits-number, number-digits}
 use Rattle.posit.proofs.Complement.{InRange, complement-lt, reading-low, reading-high, complement-reading, reading-complement}
@@ -71,7 +71,7 @@ module _ (bits : ℕ) (some : 0 < bits) where
     read-spelt q h =
         ap (stateOf bits) (number-digits B base c (bitsOf bits q) ∙ mod-eq-of-lt (rw all (bits-lt q h))) ∙ state-bits q h
 
-    pub spelt-read : (ds : List ℕ) → length ds ≡ c → Below B ds → digits B c (bitsOf bits (stateOf bits (number B ds))) ≡ ds
+    pub spelt-read : (ds : List ℕ) → length ds ≡ c → InBase B ds → digits B c (bitsOf bits (stateOf bits (number B ds))) ≡ ds
     spelt-read ds e b =
         let short : number B ds < 2 ^ bits = rw (e, all) at (number-lt B ds b) in
         ap (digits B c) (bits-state (number B ds) short) ∙ ap (λ (n : ℕ). digits B n (number B ds)) (sym e) ∙ digits-number B base ds b
@@ -84,7 +84,7 @@ module _ (bits : ℕ) (some : 0 < bits) (whole : (2 ^ 64) ^ (bits / 64) ≡ 2 ^ 
   unfolding fromWords words
   words-read = read-spelt bits some (2 ^ 64) (bits / 64) (pow-pos 64) whole
 
-  pub read-words : (ws : List ℕ) → length ws ≡ bits / 64 → Below (2 ^ 64) ws → words bits (fromWords bits ws) ≡ ws
+  pub read-words : (ws : List ℕ) → length ws ≡ bits / 64 → InBase (2 ^ 64) ws → words bits (fromWords bits ws) ≡ ws
   unfolding fromWords words
   read-words = spelt-read bits some (2 ^ 64) (bits / 64) (pow-pos 64) whole
 
@@ -94,6 +94,6 @@ module _ (bits : ℕ) (some : 0 < bits) (whole : (2 ^ 8) ^ (bits / 8) ≡ 2 ^ bi
   unfolding fromImage image
   image-read = read-spelt bits some (2 ^ 8) (bits / 8) (pow-pos 8) whole
 
-  pub read-image : (bs : List ℕ) → length bs ≡ bits / 8 → Below (2 ^ 8) bs → image bits (fromImage bits bs) ≡ bs
+  pub read-image : (bs : List ℕ) → length bs ≡ bits / 8 → InBase (2 ^ 8) bs → image bits (fromImage bits bs) ≡ bs
   unfolding fromImage image
   read-image = spelt-read bits some (2 ^ 8) (bits / 8) (pow-pos 8) whole

@@ -17,9 +17,9 @@ number B [] = 0
 number B (d ∷ ds) = d * B ^ length ds + number B ds
 
 -- each digit is below the base
-abbrev pub Below : ℕ → List ℕ → Type 0
-Below B [] = Unit {0}
-Below B (d ∷ ds) = (d < B) × Below B ds
+abbrev pub InBase : ℕ → List ℕ → Type 0
+InBase B [] = Unit {0}
+InBase B (d ∷ ds) = (d < B) × InBase B ds
 
 -- two lists are the same, digit by digit
 unfoldable pub same : List ℕ → List ℕ → Bool

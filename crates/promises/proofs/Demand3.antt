@@ -15,7 +15,7 @@ use lib.IntN.{ℤ, pos, negsuc, negℤ, natAbs, _+ℤ_, _-ℤ_}
 use lib.ListN.{length, replicate}
 use lib.Pow.{pow-pos}
 use Rattle.posit.specs.Pattern.{nar}
-use Rattle.posit.specs.Digits.{number, Below, reading}
+use Rattle.posit.specs.Digits.{number, InBase, reading}
 use Rattle.posit.specs.Operation.{exact, exactProduct}
 use Rattle.posit.specs.Accumulator.{State, notReal, total, clear, ofPosit, ofProduct, plus, minus, negated, words, fromWords, image, fromImage, stateOf, bitsOf}
 use Rattle.posit.proofs.Computing.{everything}
@@ -159,11 +159,11 @@ units-all s n = ap (λ (t : ℤ). totalFrom t (replicate n (oneUnit s))) (sym (z
 units-from-clear : (s : Bool) (n : ℕ) → n < 2 ^ 511 → Stays (replicate n (oneUnit s))
 units-from-clear s n l = subst (λ (t : ℤ). StaysFrom t (replicate n (oneUnit s))) (zero-either-sign s) (units-stay (2 ^ 511) s n 0 (subst (λ (m : ℕ). m < 2 ^ 511) (sym (zero-add n)) l))
 
-image-held : (bs : List ℕ) → length bs ≡ 64 → Below 256 bs → Held 512 (fromImage 512 bs)
+image-held : (bs : List ℕ) → length bs ≡ 64 → InBase 256 bs → Held 512 (fromImage 512 bs)
 unfolding fromImage
 image-held bs e b = state-held 512 (lit< tt) (number 256 bs) (rw e at (number-lt 256 bs b))
 
-all-read : (bs : List ℕ) → length bs ≡ 64 → Below 256 bs → image 512 (fromImage 512 bs) ≡ bs
+all-read : (bs : List ℕ) → length bs ≡ 64 → InBase 256 bs → image 512 (fromImage 512 bs) ≡ bs
 all-read bs e b = read-image 512 (lit< tt) refl bs e b
 
 -- a history that keeps both premises and whose image is bs
@@ -192,7 +192,7 @@ reached-total s n bs l e =
           };
     }
 
-pub every-image-reached : (bs : List ℕ) → length bs ≡ 64 → Below 256 bs → bs ≢ image 512 notReal → Reached bs
+pub every-image-reached : (bs : List ℕ) → length bs ≡ 64 → InBase 256 bs → bs ≢ image 512 notReal → Reached bs
 every-image-reached bs e b n = go (fromImage 512 bs) refl (image-held bs e b)
   where
     go : (q : State) → fromImage 512 bs ≡ q → Held 512 (fromImage 512 bs) → Reached bs

@@ -12,7 +12,7 @@ use lib.Dec.{eqb}
 use lib.IntN.{pos}
 use lib.ListN.{length}
 use lib.Pow.{pow-pos}
-use Rattle.posit.specs.Digits.{number, digits, Below, reading, complement}
+use Rattle.posit.specs.Digits.{number, digits, InBase, reading, complement}
 use Rattle.posit.specs.Accumulator.{State, notReal, total, clear, isNotReal, isClear, bitsOf, stateOf, words, fromWords}
 use Rattle.posit.proofs.Digits.{digits-number}
 use Rattle.posit.proofs.Complement.{reading-low, reading-high}
@@ -48,7 +48,7 @@ pub read-real : (ws : List ℕ) → wide ws ≢ 2 ^ 511 → fromWords 512 ws ≡
 unfolding fromWords stateOf
 read-real ws n = rw (ne-eqb (wide ws) (2 ^ 511) n)
 
-pub spelt : (q : State) (ws : List ℕ) → length ws ≡ 8 → Below (2 ^ 64) ws → wide ws ≡ bitsOf 512 q → ws ≡ words 512 q
+pub spelt : (q : State) (ws : List ℕ) → length ws ≡ 8 → InBase (2 ^ 64) ws → wide ws ≡ bitsOf 512 q → ws ≡ words 512 q
 unfolding words
 spelt q ws e b n = sym (digits-number (2 ^ 64) (pow-pos 64) ws b) ∙ ap₂ (digits (2 ^ 64)) e n
 

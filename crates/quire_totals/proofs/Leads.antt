@@ -11,7 +11,7 @@ use borrow.Author.Tests.{lt-ltb, le-ltb}
 use lib.Dec.{ltb, lit<, lit≤}
 use lib.ListN.{length, getD, drop, List·getD-eq-default}
 use lib.Pow.{pow-pos, pow-add}
-use Rattle.posit.specs.Digits.{Below}
+use Rattle.posit.specs.Digits.{InBase}
 use Rattle.posit.proofs.Arith.{pow-sum, mul-mod-mul, pow-mul}
 use Rattle.rounding.proofs.Terms.{finerBy}
 use Rattle.quire_steps.proofs.Moved.{moved-down}
@@ -127,7 +127,7 @@ one-word-digits h z hz top word =
     (leads h z 0 (h * 2 ^ z) 0 (omega arith) (lit< tt) (omega arith) (lit≤ tt) top word false refl)
 
 -- the words ws, of which the one at i is the first that is not 0
-pub digits-of : (ws : List ℕ) → length ws ≡ 8 → Below (2 ^ 64) ws → (i z : ℕ) → i < 8 → z < 64 → wide ws ≡ wide (drop i ws) → 2 ^ 63 ≤ getD ws i 0 * 2 ^ z → getD ws i 0 * 2 ^ z < 2 ^ 64
+pub digits-of : (ws : List ℕ) → length ws ≡ 8 → InBase (2 ^ 64) ws → (i z : ℕ) → i < 8 → z < 64 → wide ws ≡ wide (drop i ws) → 2 ^ 63 ≤ getD ws i 0 * 2 ^ z → getD ws i 0 * 2 ^ z < 2 ^ 64
     → Leads (wide ws) ((finerBy + 448) - 64 * i - z) (getD ws i 0 * 2 ^ z % 2 ^ 64 + getD ws (i + 1) 0 / 2 / 2 ^ (63 - z)) (ltb 0 (getD ws (i + 1) 0 * 2 ^ z % 2 ^ 64) || ltb 0 (wide (drop (i + 2) ws)))
 digits-of ws e b i z hi hz all top word = go (decLt i 7)
   where

@@ -7,7 +7,7 @@ use native.Mathlib.Nat.{add-comm, add-mul, mul-assoc, pow-succ' as pow-suc', sub
 use native.Mathlib.Omega.{arith}
 use lib.Arith.{digits-mod}
 use lib.ListN.{length, getD, drop, set, length-set, length-drop, drop-of-length-le}
-use Rattle.posit.specs.Digits.{number, Below}
+use Rattle.posit.specs.Digits.{number, InBase}
 use Rattle.posit.proofs.Digits.{number-lt}
 use Rattle.quire_words.proofs.Places.{number-drop, number-drop-lt, below-at, drop-set}
 
@@ -15,7 +15,7 @@ use Rattle.quire_words.proofs.Places.{number-drop, number-drop-lt, belo
 pub record Carried (B n i c : ℕ) (r : List ℕ) (s : ℕ) : Type 0 where
   pub long : length r ≡ n
   pub within : i ≤ n
-  pub below : Below B (drop i r)
+  pub below : InBase B (drop i r)
   pub sum : number B (drop i r) + c * B ^ (n - i) ≡ s
 
 -- one column: a digit t and a carry k for the column's sum y + c, in front of v and c, which are s
@@ -74,7 +74,7 @@ base-parts B P x l =
     ap (λ (b : ℕ). b * P) e ∙ add-mul (B - 1 - x) (suc x) P ∙ ap (λ (z : ℕ). (B - 1 - x) * P + z) (suc-mul x P)
 
 -- what the complement of a number grows by
-pub complement-grows : (B n i : ℕ) (a : List ℕ) → length a ≡ n → Below B a → i ≤ n
+pub complement-grows : (B n i : ℕ) (a : List ℕ) → length a ≡ n → InBase B a → i ≤ n
     → (j : ℕ) → suc j ≡ i → B ^ (n - j) - 1 - number B (drop j a) ≡ (B - 1 - getD a j 0) * B ^ (n - suc j) + (B ^ (n - i) - 1 - number B (drop i a))
 complement-grows B n i a ha h w j e =
     let va = rw (ha, e) at (number-drop B a j (omega arith)) in

@@ -10,11 +10,11 @@ use borrow.Author.Tests.{eq-eqb, ne-eqb, le-leb, lt-leb}
 use lib.Arith.{digits-lt, digits-div, digits-mod}
 use lib.Dec.{eqb, leb}
 use lib.ListN.{length, getD, drop}
-use Rattle.posit.specs.Digits.{number, Below}
+use Rattle.posit.specs.Digits.{number, InBase}
 use Rattle.quire_words.specs.Words.{wide}
 use Rattle.quire_words.proofs.Places.{number-drop, number-drop-lt}
 
-pub first-digit : (B n : ℕ) (ws : List ℕ) → length ws ≡ suc n → Below B ws → (number B ws ≡ getD ws 0 0 * B ^ n + number B (drop 1 ws)) × (number B (drop 1 ws) < B ^ n)
+pub first-digit : (B n : ℕ) (ws : List ℕ) → length ws ≡ suc n → InBase B ws → (number B ws ≡ getD ws 0 0 * B ^ n + number B (drop 1 ws)) × (number B (drop 1 ws) < B ^ n)
 first-digit B n ws e b =
     let one : suc n - 1 ≡ n = omega arith in
     (rw (e, one) at (number-drop B ws 0 (omega arith)), rw one at (number-drop-lt B (suc n) 1 ws e b))
@@ -46,7 +46,7 @@ module _ (P x v : ℕ) (low : v < P) where
       go (no l) = rw (le-leb h x (omega arith), le-leb (h * P) (x * P + v) (omega (arith, mul-le-mul-right {m = h} {n = x} P (omega arith))))
 
 -- eight words are from 2 ^ 511 on exactly where the first is from 2 ^ 63 on
-pub sign-seen : (ws : List ℕ) → length ws ≡ 8 → Below (2 ^ 64) ws → leb (2 ^ 63) (getD ws 0 0) ≡ leb (2 ^ 511) (wide ws)
+pub sign-seen : (ws : List ℕ) → length ws ≡ 8 → InBase (2 ^ 64) ws → leb (2 ^ 63) (getD ws 0 0) ≡ leb (2 ^ 511) (wide ws)
 sign-seen ws e b =
     let f = first-digit (2 ^ 64) 7 ws e b in
     reaches ((2 ^ 64) ^ 7) (getD ws 0 0) (wide (drop 1 ws)) (f .1) (2 ^ 63) ∙ ap (leb (2 ^ 511)) (sym (f .0))

@@ -13,7 +13,7 @@ use mir.Val.{Fits, boolByte}
 use lib.Dec.{lit≤}
 use lib.ListN.{length, getD, drop, set, length-set, length-drop, drop-of-length-le}
 use lib.Seq.{drop-cons, drop-set-lt, getD-set-same}
-use Rattle.posit.specs.Digits.{number, Below}
+use Rattle.posit.specs.Digits.{number, InBase}
 use Rattle.posit.proofs.Digits.{number-lt}
 use Rattle.quire_words.specs.Words.{wide}
 
@@ -26,21 +26,21 @@ module _ (B : ℕ) where
   unfolding number
   number-none i ws h = rw (drop-of-length-le ws {i = i} h)
 
-  pub below-each : (ws : List ℕ) → ((i : ℕ) → getD ws i 0 < B) → Below B ws
+  pub below-each : (ws : List ℕ) → ((i : ℕ) → getD ws i 0 < B) → InBase B ws
   below-each [] h = tt
   below-each (w ∷ ws) h = (h 0, below-each ws (λ i. h (suc i)))
 
-  pub below-drop : (ws : List ℕ) (i : ℕ) → Below B ws → Below B (drop i ws)
+  pub below-drop : (ws : List ℕ) (i : ℕ) → InBase B ws → InBase B (drop i ws)
   below-drop ws zero h = h
   below-drop [] (suc i) h = tt
   below-drop (w ∷ ws) (suc i) h = below-drop ws i (h .1)
 
-  pub below-at : (ws : List ℕ) (i : ℕ) → Below B ws → i < length ws → getD ws i 0 < B
+  pub below-at : (ws : List ℕ) (i : ℕ) → InBase B ws → i < length ws → getD ws i 0 < B
   below-at [] i h l = absurd (not-suc-le-zero l)
   below-at (w ∷ ws) zero h l = h .0
   below-at (w ∷ ws) (suc i) h l = below-at ws i (h .1) (omega arith)
 
-  pub number-drop-lt : (n i : ℕ) (ws : List ℕ) → length ws ≡ n → Below B ws → number B (drop i ws) < B ^ (n - i)
+  pub number-drop-lt : (n i : ℕ) (ws : List ℕ) → length ws ≡ n → InBase B ws → number B (drop i ws) < B ^ (n - i)
   number-drop-lt n i ws e b = rw (length-drop, e) at (number-lt B (drop i ws) (below-drop ws i b))
 
 -- where a list is written at i, what stands from i on
@@ -49,7 +49,7 @@ drop-set r i t h =
     drop-cons (set r i t) i 0 (rw length-set h) ∙ (simp (getD-set-same r i t 0 h, drop-set-lt (suc i) r i t (omega arith)))
 
 -- a value of the type [u64; n], as the logic has it, has n words below 2 ^ 64
-pub words-typed : (n : ℕ) (xs : List ℕ) → rArr {k = 0} (eInt w64) (eInt-laws w64) n .is .Ok tt xs → (length xs ≡ n) × Below (2 ^ 64) xs
+pub words-typed : (n : ℕ) (xs : List ℕ) → rArr {k = 0} (eInt w64) (eInt-laws w64) n .is .Ok tt xs → (length xs ≡ n) × InBase (2 ^ 64) xs
 words-typed n xs o = (search needs, below-each (2 ^ 64) xs (λ i. let f : Fits w64 (getD xs i 0) = search needs in f .fits))
 
 -- eight of them are a number of 512 bits

@@ -49,8 +49,8 @@ term-of-requires c κs = (c .before .if2 .left, neither (c .before .before) .0)
 term-of-requires-2 : tie.Need-term-of-requires-2
 term-of-requires-2 c κs = (c .before .if3 .left, neither (c .before .before .before) .1)
 
-sum-of-requires : tie.Need-sum-of-requires
-sum-of-requires c κs = search needs
+term-sum-requires : tie.Need-term-sum-requires
+term-sum-requires c κs = search needs
 
 returns-4 : tie.Need-returns-4
 returns-4 c =
@@ -59,10 +59,10 @@ returns-4 c =
     let q = c .before .before .before .before .before .before .before .args .q in
     let x = c .before .before .term-of .result in
     let y = c .before .term-of2 .result in
-    c .sum-of .ensures
+    c .term-sum .ensures
     ∙ sym
     (sum-real 2 31 p q (k .0) (k .1)
     ∙ terms-sum (exact 2 31 p) (x .negative) (x .scale) (x .significand) (c .before .before .term-of .ensures) (exact 2 31 q) (y .negative) (y .scale) (y .significand) (c .before .term-of2 .ensures))
 
 pub add-spec : {M : Type 1} → statement M
-add-spec = tie.close (tie.spec either-nar-requires returns returns-2 returns-3 term-of-requires term-of-requires-2 sum-of-requires returns-4)
+add-spec = tie.close (tie.spec either-nar-requires returns returns-2 returns-3 term-of-requires term-of-requires-2 term-sum-requires returns-4)

@@ -48,8 +48,8 @@ scaled-of-requires c κs = search needs
 scaled-of-requires-2 : tie.Need-scaled-of-requires-2
 scaled-of-requires-2 c κs = search needs
 
-product-of-requires : tie.Need-product-of-requires
-product-of-requires c κs =
+term-product-requires : tie.Need-term-product-requires
+term-product-requires c κs =
     let d = c .before .before in
     let k = neither (d .before .before) in
     ((d .before .if2 .left, k .0), (d .if3 .left, k .1), c .before .scaled-of .ensures, c .scaled-of2 .ensures)
@@ -63,11 +63,11 @@ returns-4 c =
     let k = neither (d .before .before) in
     let p = d .before .before .before .before .args .p in
     let q = d .before .before .before .before .args .q in
-    let t = c .before .product-of .result in
+    let t = c .before .term-product .result in
     c .pack-term .ensures
     ∙ sym
     (product-real 2 31 p q (k .0) (k .1)
-    ∙ term-alone (exactProduct 2 31 p q) (t .negative) (t .scale) (t .significand) (c .before .product-of .ensures))
+    ∙ term-alone (exactProduct 2 31 p q) (t .negative) (t .scale) (t .significand) (c .before .term-product .ensures))
 
 pub mul-spec : {M : Type 1} → statement M
-mul-spec = tie.close (tie.spec either-nar-requires returns returns-2 returns-3 scaled-of-requires scaled-of-requires-2 product-of-requires pack-term-requires returns-4)
+mul-spec = tie.close (tie.spec either-nar-requires returns returns-2 returns-3 scaled-of-requires scaled-of-requires-2 term-product-requires pack-term-requires returns-4)

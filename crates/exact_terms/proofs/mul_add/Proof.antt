@@ -56,8 +56,8 @@ scaled-of-requires c κs = search needs
 scaled-of-requires-2 : tie.Need-scaled-of-requires-2
 scaled-of-requires-2 c κs = search needs
 
-product-of-requires : tie.Need-product-of-requires
-product-of-requires c κs =
+term-product-requires : tie.Need-term-product-requires
+term-product-requires c κs =
     let d = c .before .before in
     let k = neither (d .before .before .before) in
     ((d .before .if3 .left, k .0), (d .if4 .left, k .1), c .before .scaled-of .ensures, c .scaled-of2 .ensures)
@@ -67,7 +67,7 @@ pack-term-requires c κs = search needs
 
 returns-5 : tie.Need-returns-5
 returns-5 c =
-    let t = c .before .before .product-of in
+    let t = c .before .before .term-product in
     let d = c .before .before .before .before .before in
     let k = neither (d .before .before .before) in
     let a = d .before .before .before .before .before .args in
@@ -81,17 +81,17 @@ returns-5 c =
 term-of-requires : tie.Need-term-of-requires
 term-of-requires c κs = (c .if5 .left, c .before .before .before .before .before .before .if2 .left)
 
-sum-of-requires : tie.Need-sum-of-requires
-sum-of-requires c κs = search needs
+term-sum-requires : tie.Need-term-sum-requires
+term-sum-requires c κs = search needs
 
 returns-6 : tie.Need-returns-6
 returns-6 c =
-    let x = c .before .before .before .product-of in
+    let x = c .before .before .before .term-product in
     let y = c .before .term-of in
     let d = c .before .before .before .before .before .before in
     let k = neither (d .before .before .before) in
     let a = d .before .before .before .before .before .args in
-    c .sum-of .ensures
+    c .term-sum .ensures
     ∙ sym
     (fused-real 2 31 (a .p) (a .q) (a .s) (k .0) (k .1) (d .before .before .if2 .left)
     ∙ terms-sum (exactProduct 2 31 (a .p) (a .q)) (x .result .negative) (x .result .scale) (x .result .significand) (x .ensures) (exact 2 31 (a .s)) (y .result .negative) (y .result .scale) (y .result .significand) (y .ensures))
@@ -99,4 +99,4 @@ returns-6 c =
 pub mul-add-spec : {M : Type 1} → statement M
 mul-add-spec =
     tie.close
-    (tie.spec either-nar-requires returns returns-2 returns-3 returns-4 scaled-of-requires scaled-of-requires-2 product-of-requires pack-term-requires returns-5 term-of-requires sum-of-requires returns-6)
+    (tie.spec either-nar-requires returns returns-2 returns-3 returns-4 scaled-of-requires scaled-of-requires-2 term-product-requires pack-term-requires returns-5 term-of-requires term-sum-requires returns-6)

@@ -1,4 +1,4 @@
--- `sum_of` meets its contract: the greater of the terms is the first, and the order does not change their sum.
+-- `term_sum` meets its contract: the greater of the terms is the first, and the order does not change their sum.
 use mathlib.Core.Path.{_≡_, refl, sym, ap, ap₂, subst₂, _∙_}
 use mathlib.Core.Bool.{Bool, true, false, cond}
 use Prim.Native.Nat.{_≤_}
@@ -11,8 +11,8 @@ use Rattle.posit.specs.Rounding.{rounded}
 use Rattle.rounding.specs.Packed.{packedUnit}
 use Rattle.exact_terms.specs.declared.terms.Term.{Term}
 use Rattle.rounding.proofs.Terms.{Normal, magnitude, term}
-use Rattle.exact_terms.proofs.sums.sum_of.Statement.{statement}
-use Rattle.exact_terms.proofs.sums.sum_of.Tie as tie
+use Rattle.exact_terms.proofs.sums.term_sum.Statement.{statement}
+use Rattle.exact_terms.proofs.sums.term_sum.Tie as tie
 
 abbrev worth : Term → ℤ
 worth t = term (t .negative) (t .scale) (t .significand)
@@ -30,8 +30,8 @@ module _ (x y : Term) where
   same-sum true = +ℤ-comm (worth y) (worth x)
   same-sum false = refl
 
-below-requires : tie.Need-below-requires
-below-requires c κs = search needs
+smaller-requires : tie.Need-smaller-requires
+smaller-requires c κs = search needs
 
 chosen-requires : tie.Need-chosen-requires
 chosen-requires c κs = search needs
@@ -44,7 +44,7 @@ sum-ordered-requires c κs =
     let k = c .before .before .before in
     let x = k .args .x in
     let y = k .args .y in
-    subst₂ Ordered (sym (c .before .chosen .ensures)) (sym (c .chosen2 .ensures)) (ordered x y (k .pre .0) (k .pre .1) _ (c .before .before .below .ensures))
+    subst₂ Ordered (sym (c .before .chosen .ensures)) (sym (c .chosen2 .ensures)) (ordered x y (k .pre .0) (k .pre .1) _ (c .before .before .smaller .ensures))
 
 returns : tie.Need-returns
 returns c =
@@ -53,7 +53,7 @@ returns c =
     let y = k .args .y in
     c .sum-ordered .ensures
     ∙ ap (rounded 2 31 packedUnit)
-    (ap₂ (λ (h l : Term). worth h +ℤ worth l) (c .before .before .chosen .ensures) (c .before .chosen2 .ensures) ∙ same-sum x y (c .before .before .before .below .result))
+    (ap₂ (λ (h l : Term). worth h +ℤ worth l) (c .before .before .chosen .ensures) (c .before .chosen2 .ensures) ∙ same-sum x y (c .before .before .before .smaller .result))
 
-pub sum-of-spec : {M : Type 1} → statement M
-sum-of-spec = tie.close (tie.spec below-requires chosen-requires chosen-requires-2 sum-ordered-requires returns)
+pub term-sum-spec : {M : Type 1} → statement M
+term-sum-spec = tie.close (tie.spec smaller-requires chosen-requires chosen-requires-2 sum-ordered-requires returns)

@@ -1,4 +1,4 @@
--- `below` meets its contract: with the leading ones at one place the scales decide, and where they are the same the significands.
+-- `smaller` meets its contract: with the leading ones at one place the scales decide, and where they are the same the significands.
 use mathlib.Core.Path.{_≡_, sym, ap, _∙_}
 use Prim.Native.Nat.{ℕ, _*_, _^_, _<_}
 use native.Mathlib.Nat.{le-of-lt}
@@ -10,8 +10,8 @@ use lib.Pow.{pow-pos}
 use Rattle.posit.proofs.Compare.{ltb-factor}
 use Rattle.rounding.proofs.Terms.{Normal}
 use Rattle.exact_terms.proofs.Added.{by-scale}
-use Rattle.exact_terms.proofs.sums.below.Statement.{statement}
-use Rattle.exact_terms.proofs.sums.below.Tie as tie
+use Rattle.exact_terms.proofs.sums.smaller.Statement.{statement}
+use Rattle.exact_terms.proofs.sums.smaller.Tie as tie
 
 same-scale : (c g d h : ℕ) → c ≡ d → ltb g h ≡ ltb (g * 2 ^ c) (h * 2 ^ d)
 same-scale c g d h e = sym (ap (λ (n : ℕ). ltb (g * 2 ^ n) (h * 2 ^ d)) e ∙ ltb-factor g h (2 ^ d) (pow-pos d))
@@ -37,5 +37,5 @@ returns-2 c =
     let y = k .args .y in
     other-scale (x .scale) (x .significand) (y .scale) (y .significand) (k .pre .0) (k .pre .1) (c .before .before .if1 .left)
 
-pub below-spec : {M : Type 1} → statement M
-below-spec = tie.close (tie.spec returns returns-2)
+pub smaller-spec : {M : Type 1} → statement M
+smaller-spec = tie.close (tie.spec returns returns-2)

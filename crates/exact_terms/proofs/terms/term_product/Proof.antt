@@ -1,4 +1,4 @@
--- `product_of` meets its contract: the product of two sizes, below 0 where just one of the two is.
+-- `term_product` meets its contract: the product of two sizes, below 0 where just one of the two is.
 use mathlib.Core.Path.{sym, subst, _∙_}
 use mathlib.Core.Bool.{Bool}
 use native.Mathlib.Omega.{arith}
@@ -7,8 +7,8 @@ use Rattle.posit.specs.Operation.{exactProduct}
 use Rattle.rounding.proofs.Terms.{IsTerm}
 use Rattle.rounding.proofs.Machine.{differ-is}
 use Rattle.exact_terms.proofs.Exactly.{product-term}
-use Rattle.exact_terms.proofs.terms.product_of.Statement.{statement}
-use Rattle.exact_terms.proofs.terms.product_of.Tie as tie
+use Rattle.exact_terms.proofs.terms.term_product.Statement.{statement}
+use Rattle.exact_terms.proofs.terms.term_product.Tie as tie
 
 multiplied-requires : tie.Need-multiplied-requires
 multiplied-requires c κs = let k = c .pre in (k .2 .of-real (k .0) .in-scale, k .3 .of-real (k .1) .in-scale)
@@ -22,5 +22,5 @@ returns c =
     (sym (c .multiplied .ensures .0 ∙ differ-is (isNegative 31 (a .a)) (isNegative 31 (a .b))))
     (product-term (a .a) (a .b) (a .x .scale) (a .y .scale) (a .x .significand) (a .y .significand) (omega arith) (omega arith) (k .0) (k .1) (k .2) (k .3) (t .scale) (t .significand) (c .multiplied .ensures .1))
 
-pub product-of-spec : {M : Type 1} → statement M
-product-of-spec = tie.close (tie.spec multiplied-requires returns)
+pub term-product-spec : {M : Type 1} → statement M
+term-product-spec = tie.close (tie.spec multiplied-requires returns)
