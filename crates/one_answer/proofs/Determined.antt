@@ -17,7 +17,7 @@ use Rattle.posit.specs.Digits.{digits}
 use Rattle.posit.proofs.Digits.{digits-number}
 use Rattle.unpacking.specs.Parts.{Parts, isZero, isNaR, isReal}
 use Rattle.unpacking.specs.Unpacked.{meaning}
-use Rattle.unpacking.specs.Scaled.{InScale, Scales, IsScaled}
+use Rattle.unpacking.specs.Scaled.{Scales, IsScaled}
 use Rattle.unpacking.specs.declared.Unpacked.{Unpacked}
 use Rattle.unpacking.specs.declared.Unpacked.the-variants.{Zero, NaR, Real}
 use Rattle.quire_words.specs.Words.{wide}

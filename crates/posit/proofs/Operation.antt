@@ -1,6 +1,6 @@
 -- How the operations hang together: a NaR operand, a zero operand, and the forms that subtract, which are those that add on the opposite of an operand. So
 -- code needs one addition of two terms, and one product.
-use mathlib.Core.Path.{_≡_, refl, sym, ap, ap₂, _∙_}
+use mathlib.Core.Path.{_≡_, sym, ap, ap₂, _∙_}
 use mathlib.Core.Logic.{_≢_}
 use mathlib.Core.Bool.{Bool, true, false, _||_, or-true, true≢false}
 use Prim.Native.Nat.{ℕ, zero, suc, _+_, _-_, _^_, _≤_, _<_}

@@ -1,8 +1,8 @@
--- A posit, or the exact product of two, as an operand of a step: what scale and significand tell of a value, in units that are one word finer than those of the
--- accumulator. The division by 2 ^ 64 in an operand's amount leaves no remainder, since the value is a whole number of the accumulator's units (`undivided`).
-use mathlib.Core.Path.{_≡_, refl, sym, ap, _∙_}
+-- A posit, or the exact product of two, as an operand of a step: what scale and significand tell of a value, in units of 2 ^ - operandUnit, one word finer than those of
+-- the accumulator. An operand's amount leaves no remainder, since the value is a whole number of the accumulator's units (`undivided`).
+use mathlib.Core.Path.{_≡_, refl, sym, ap, ap₂, _∙_}
 use mathlib.Core.Logic.{_≢_}
-use mathlib.Core.Bool.{Bool, true, false, cond, xor, _||_}
+use mathlib.Core.Bool.{Bool, true, false, cond, xor, _||_, true≢false}
 use Prim.Native.Nat.{ℕ, zero, suc, _+_, _-_, _*_, _/_, _^_, _<_}
 use native.Mathlib.Nat.{mul-assoc, mul-pos, mul-div-cancel}
 use native.Mathlib.Decide.{ℕ-discrete}
@@ -11,13 +11,15 @@ use borrow.Author.Tests.{eq-eqb, ne-eqb}
 use lib.Dec.{eqb, lit≤}
 use lib.IntN.{ℤ, pos, negℤ, natAbs, _*ℤ_, pos-ne-negsuc}
 use lib.Pow.{pow-pos, pow-add}
-use Rattle.posit.specs.Pattern.{nar, isNegative, value}
+use Rattle.posit.specs.Pattern.{nar, isNegative, value, unit}
 use Rattle.posit.specs.Operation.{exact, exactProduct}
-use Rattle.posit.specs.Accumulator.{State, notReal, total, ofPosit, ofProduct}
+use Rattle.posit.specs.Accumulator.{notReal, total, ofPosit, ofProduct}
 use Rattle.posit.proofs.Signs.{withSign, by-sign, scaled-sign}
 use Rattle.posit.proofs.Unsigned.{value-unit}
-use Rattle.unpacking.specs.Scaled.{IsScaled}
+use Rattle.posit.proofs.Operation.{eitherNar, neither-nar}
+use Rattle.unpacking.specs.Scaled.{scaledUnit, IsScaled}
 use Rattle.unpacking.proofs.Valued.{value-scaled, product-scaled}
+use Rattle.quire_words.proofs.Operand.{operandUnit, amount}
 use Rattle.quire_steps.proofs.Range.{size-of}
 
 -- ---- a value that was moved up by a word
@@ -44,37 +46,37 @@ undivided x s n = by-sign (λ x. x *ℤ pos (2 ^ 64) ≡ withSign s n → withSi
         let whole : n ≡ m * 2 ^ 64 = sym (sym (size-of t (m * 2 ^ 64)) ∙ ap natAbs told ∙ size-of s n) in
         rw (whole, mul-div-cancel m (pow-pos 64)) (same-sign s t m (2 ^ 64) (pow-pos 64) (rw whole at told))
 
-amount-is : (x : ℤ) (s : Bool) (g c i : ℕ) → x *ℤ pos (2 ^ 64) ≡ withSign s (g * 2 ^ c * 2 ^ i) → withSign s (g * 2 ^ (c + i) / 2 ^ 64) ≡ x
+amount-is : (x : ℤ) (s : Bool) (g c i : ℕ) → x *ℤ pos (2 ^ 64) ≡ withSign s (g * 2 ^ c * 2 ^ i) → withSign s (amount (c + i) g) ≡ x
 amount-is x s g c i e = undivided x s (g * 2 ^ (c + i)) (e ∙ ap (withSign s) (mul-assoc g (2 ^ c) (2 ^ i) ∙ ap (λ (n : ℕ). g * n) (sym (pow-add 2 c i))))
 
 -- ---- operands
 
 module _ (p c g : ℕ) (short : p < 2 ^ 32) (s : IsScaled p c g) where
-  pub posit-brought : cond (eqb p (nar 31)) notReal (total (withSign (isNegative 31 p) (g * 2 ^ (c + 154) / 2 ^ 64))) ≡ ofPosit 2 31 p
+  pub posit-brought : cond (eqb p (nar 31)) notReal (total (withSign (isNegative 31 p) (amount (c + (operandUnit - scaledUnit)) g))) ≡ ofPosit 2 31 p
   unfolding ofPosit exact
   posit-brought = go (ℕ-discrete p (nar 31))
     where
-      go : Dec (p ≡ nar 31) → cond (eqb p (nar 31)) notReal (total (withSign (isNegative 31 p) (g * 2 ^ (c + 154) / 2 ^ 64))) ≡ ofPosit 2 31 p
+      go : Dec (p ≡ nar 31) → cond (eqb p (nar 31)) notReal (total (withSign (isNegative 31 p) (amount (c + (operandUnit - scaledUnit)) g))) ≡ ofPosit 2 31 p
       go (yes e) = rw (eq-eqb p (nar 31) e)
       go (no n) =
-          let moved = sym (value-unit 2 31 p 240 64 short n (lit≤ tt)) ∙ value-scaled p c g short n s 154 in
-          rw (ne-eqb p (nar 31) n) (ap total (amount-is (value 2 31 240 p) (isNegative 31 p) g c 154 moved))
+          let moved = sym (value-unit 2 31 p (unit 2 31) (operandUnit - unit 2 31) short n (lit≤ tt)) ∙ value-scaled p c g short n s (operandUnit - scaledUnit) in
+          rw (ne-eqb p (nar 31) n) (ap total (amount-is (value 2 31 (unit 2 31) p) (isNegative 31 p) g c (operandUnit - scaledUnit) moved))
+
+pub nar-brought : (p q : ℕ) → eitherNar 2 31 p q ≡ true → notReal ≡ ofProduct 2 31 p q
+unfolding ofProduct
+nar-brought p q e = go (ℕ-discrete p (nar 31)) (ℕ-discrete q (nar 31))
+  where
+    go : Dec (p ≡ nar 31) → Dec (q ≡ nar 31) → notReal ≡ ofProduct 2 31 p q
+    go (yes h) k = rw (eq-eqb p (nar 31) h)
+    go (no h) (yes k) = rw (ne-eqb p (nar 31) h, eq-eqb q (nar 31) k)
+    go (no h) (no k) = absurd (true≢false (sym e ∙ ap₂ _||_ (ne-eqb p (nar 31) h) (ne-eqb q (nar 31) k)))
 
 module _ (p q c d g h : ℕ) (short : p < 2 ^ 32) (short′ : q < 2 ^ 32) (s : IsScaled p c g) (t : IsScaled q d h) where
-  abbrev Brought : Type 0
-  Brought =
-      cond (eqb p (nar 31) || eqb q (nar 31)) notReal (total (withSign (xor (isNegative 31 p) (isNegative 31 q)) (g * h * 2 ^ (c + d + 4) / 2 ^ 64)))
-      ≡ ofProduct 2 31 p q
-
-  pub product-brought : Brought
+  pub product-brought : eitherNar 2 31 p q ≡ false → total (withSign (xor (isNegative 31 p) (isNegative 31 q)) (amount (c + d + (operandUnit - 2 * scaledUnit)) (g * h))) ≡ ofProduct 2 31 p q
   unfolding ofProduct
-  product-brought = go (ℕ-discrete p (nar 31)) (ℕ-discrete q (nar 31))
-    where
-      go : Dec (p ≡ nar 31) → Dec (q ≡ nar 31) → Brought
-      go (yes e) f = rw (eq-eqb p (nar 31) e)
-      go (no n) (yes f) = rw (ne-eqb p (nar 31) n, eq-eqb q (nar 31) f)
-      go (no n) (no m) =
-          rw (ne-eqb p (nar 31) n, ne-eqb q (nar 31) m)
-          (ap total
-          (amount-is (exactProduct 2 31 p q) (xor (isNegative 31 p) (isNegative 31 q)) (g * h) (c + d) 4
-          (product-scaled p q c d g h short short′ n m s t 4)))
+  product-brought e =
+      let n = neither-nar 2 31 p q e in
+      rw (ne-eqb p (nar 31) (n .0), ne-eqb q (nar 31) (n .1))
+      (ap total
+      (amount-is (exactProduct 2 31 p q) (xor (isNegative 31 p) (isNegative 31 q)) (g * h) (c + d) (operandUnit - 2 * scaledUnit)
+      (product-scaled p q c d g h short short′ (n .0) (n .1) s t (operandUnit - 2 * scaledUnit))))

@@ -1,4 +1,4 @@
-// What a step brings: one posit or one exact product, as a number of units of 2^-240 with its sign.
+// What a step brings: one posit or one exact product, with its sign.
 ghost use mathlib.Core.Path.{_≡_};
 ghost use Prim.Native.Nat.{_<_};
 ghost use Rattle.posit.specs.Accumulator.{ofPosit, ofProduct};
@@ -8,7 +8,7 @@ use unpacking::NAR;
 use unpacking::either_nar;
 use unpacking::scaled::scaled_of;
 
-// NaR, or significand·2^shift / 2^64 units, without remainder: a significand is only moved up. Zero has the significand 0.
+// NaR, or significand·2^shift, told one word below the accumulator's unit, in 2^-304: a significand is only moved up. Zero has the significand 0.
 pub(crate) struct Operand {
     pub(crate) nar: bool,
     pub(crate) negative: bool,
@@ -16,7 +16,7 @@ pub(crate) struct Operand {
     pub(crate) significand: u64,
 }
 
-// One posit: its significand counts units of 2^-150, and 240 + 64 is 154 more.
+// One posit: from the unit of its significand, 2^-150, it is 154 digits to the operand's.
 pub(crate) fn posit_of(p: P32E2) -> Operand
     ensures { λ r. ⌜ (r .shift < 512) × (brought (r .nar) (r .negative) (r .shift) (r .significand) ≡ ofPosit 2 31 (p .0)) ⌝ }
 {
@@ -29,14 +29,23 @@ pub(crate) fn posit_of(p: P32E2) -> Operand
     }
 }
 
-// The exact product of two: the significands' product counts units of 2^-300, and 240 + 64 is 4 more.
+// The exact product of two: from the unit of the significands' product, 2^-300, it is 4 digits to the operand's. NaR is answered first, so that `scaled_of` need
+// not ask for it again.
 pub(crate) fn product_of(a: P32E2, b: P32E2) -> Operand
     ensures { λ r. ⌜ (r .shift < 512) × (brought (r .nar) (r .negative) (r .shift) (r .significand) ≡ ofProduct 2 31 (a .0) (b .0)) ⌝ }
 {
+    if either_nar(a.0, b.0) {
+        return Operand {
+            nar: true,
+            negative: false,
+            shift: 0,
+            significand: 0,
+        };
+    }
     let x = scaled_of(a.0);
     let y = scaled_of(b.0);
     Operand {
-        nar: either_nar(a.0, b.0),
+        nar: false,
         negative: (a.0 > NAR) != (b.0 > NAR),
         shift: x.scale + y.scale + 4,
         significand: x.significand * y.significand,

@@ -50,11 +50,7 @@ fn base_of(b: u32, m: u32) -> u32
     requires { ⌜ Positive 31 b × (m ≡ run (first 31 b) 31 b) ⌝ }
     ensures { λ r. ⌜ 4 * r ≡ raised 2 (least 2 31) (regime 31 b) ⌝ }
 {
-    if b < 0x4000_0000 {
-        30 - m
-    } else {
-        29 + m
-    }
+    if b < 0x4000_0000 { 30 - m } else { 29 + m }
 }
 
 // The length of a run, and what follows the run and the digit that ends it, at the top of a word; digits that are missing are 0.

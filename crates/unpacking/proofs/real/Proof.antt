@@ -1,5 +1,5 @@
 -- `real` meets its contract: the regime and the exponent are a quotient and a remainder of the scale, and the regime fits its type.
-use mathlib.Core.Path.{_≡_, ap, _∙_}
+use mathlib.Core.Path.{_≡_, _∙_}
 use mathlib.Core.Bool.{Bool}
 use Prim.Native.Nat.{ℕ, _+_, _/_, _%_, _^_, _<_}
 use native.Mathlib.Omega.{arith}
@@ -13,7 +13,7 @@ use Rattle.posit.specs.Pattern.{Positive, regime, exponent, raised, least}
 use Rattle.posit.proofs.Unsigned.{regime-small, exponent-lt}
 use Rattle.unpacking.specs.Parts.{isReal}
 use Rattle.unpacking.proofs.Parts.{significand-lt}
-use Rattle.unpacking.proofs.Valued.{raised-high, regime-back, exponent-back}
+use Rattle.unpacking.proofs.Scale.{raised-high, regime-back, exponent-back}
 use Rattle.unpacking.proofs.real.Statement.{statement}
 use Rattle.unpacking.proofs.real.Tie as tie
 

@@ -1,7 +1,7 @@
 -- `posit_of` meets its contract, by `posit-brought`.
 use native.Mathlib.Omega.{arith}
 use borrow.Author.Needs.{needs}
-use Rattle.unpacking.proofs.Valued.{scaled-below}
+use Rattle.unpacking.proofs.Scale.{scaled-below}
 use Rattle.quire_steps.proofs.Brought.{posit-brought}
 use Rattle.quire_steps.proofs.operands.posit_of.Statement.{statement}
 use Rattle.quire_steps.proofs.operands.posit_of.Tie as tie

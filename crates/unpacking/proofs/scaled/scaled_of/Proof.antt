@@ -5,7 +5,7 @@ use native.Mathlib.Omega.{arith}
 use Rattle.posit.specs.Pattern.{unsigned, Positive}
 use Rattle.posit.proofs.Unsigned.{unsigned-positive}
 use Rattle.unpacking.specs.Scaled.{Scales}
-use Rattle.unpacking.proofs.Valued.{scales}
+use Rattle.unpacking.proofs.Scale.{scales}
 use borrow.Author.Needs.{needs}
 use Rattle.unpacking.proofs.scaled.scaled_of.Statement.{statement}
 use Rattle.unpacking.proofs.scaled.scaled_of.Tie as tie

@@ -6,7 +6,7 @@ use borrow.Author.Needs.{needs}
 use Rattle.posit.specs.Pattern.{regime, unit}
 use Rattle.posit.proofs.Word.{behind-exponent, behind-fraction}
 use Rattle.posit.proofs.Unsigned.{regime-small}
-use Rattle.unpacking.proofs.Valued.{raised-high}
+use Rattle.unpacking.proofs.Scale.{raised-high}
 use Rattle.unpacking.proofs.scaled.to_scaled.Statement.{statement}
 use Rattle.unpacking.proofs.scaled.to_scaled.Tie as tie
 
