@@ -131,10 +131,10 @@ module _ (c g e l : ℕ) (x : Normal c g) (y : Normal e l) (order : l * 2 ^ e �
     found =
         let lost = ltb 0 (l % 2 ^ (c - e)) in
         let n = combine same g (l / 2 ^ (c - e)) lost in (
-      subst₂ (λ (M U : ℕ). Counts (whole M) n U lost) (sym total-is) (sym split)
-          (counts-times (2 ^ e) (pow-pos e) (digits-count g l (2 ^ (c - e)) (pow-pos (c - e)) less same)),
-      λ h. rw h (still-wide same g (l / 2 ^ (c - e)) (x .leading) (lost-from-two l (c - e) (y .even) (y .below) (ltb-true 0 (l % 2 ^ (c - e)) h))),
-    )
+          subst₂ (λ (M U : ℕ). Counts (whole M) n U lost) (sym total-is) (sym split)
+              (counts-times (2 ^ e) (pow-pos e) (digits-count g l (2 ^ (c - e)) (pow-pos (c - e)) less same)),
+          λ h. rw h (still-wide same g (l / 2 ^ (c - e)) (x .leading) (lost-from-two l (c - e) (y .even) (y .below) (ltb-true 0 (l % 2 ^ (c - e)) h))),
+        )
 
     pub nothing : (lost : Bool) (n : ℕ) → Found n lost → n ≡ 0 → total same (g * 2 ^ c) (l * 2 ^ e) ≡ 0
     nothing true n f z = absurd (omega (arith, f .1 refl))
