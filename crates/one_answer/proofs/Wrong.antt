@@ -10,11 +10,15 @@ use Rattle.posit.specs.Accumulator.{words, fromWords}
 use Rattle.desk.specs.Desk.{afterBatch}
 use Rattle.quire_words.specs.Words.{wide}
 use Rattle.desk.specs.Answers.{writeNumber, readNumber, batchNumber, claimNumber}
+use Rattle.desk.specs.declared.image.WriteAnswer.the-variants as write
+use Rattle.desk.specs.declared.image.ReadAnswer.the-variants as read
+use Rattle.desk.specs.declared.batch.BatchAnswer.the-variants as batch
+use Rattle.desk.specs.declared.claim.ClaimAnswer.the-variants as claim
 use Rattle.one_answer.proofs.Engines.{NoConstant, NotAlways, Never, constant-fails, always-fails, never}
 use Rattle.one_answer.proofs.Arguments.{bits, to, eight, bytes, lent}
 use Rattle.one_answer.proofs.Arithmetic.{p32e2-neg-fixes, p32e2-add-fixes, p32e2-sub-fixes, p32e2-mul-fixes, p32e2-div-fixes, p32e2-recip-fixes, p32e2-sqrt-fixes, p32e2-mul-add-fixes, p32e2-mul-sub-fixes, p32e2-sub-product-fixes}
 use Rattle.one_answer.proofs.Accumulator.{quire-steps-add-product-fixes, quire-steps-sub-product-fixes, quire-steps-add-posit-fixes, quire-steps-sub-posit-fixes, quire-steps-neg-fixes, quire-steps-from-posit-fixes, quire-totals-to-posit-fixes, quire32-add-product-fixes, quire32-sub-product-fixes, quire32-add-posit-fixes, quire32-sub-posit-fixes}
-use Rattle.one_answer.proofs.Desk.{desk-image-of-fixes, desk-write-image-fixes, desk-read-image-fixes, desk-add-batch-fixes, desk-check-claim-fixes, desk-lent-write-image-fixes, desk-lent-read-image-fixes, desk-lent-add-batch-fixes}
+use Rattle.one_answer.proofs.Desk.{desk-image-of-fixes, desk-write-image-fixes, desk-read-image-fixes, desk-add-batch-fixes, desk-check-claim-fixes, desk-write-number-fixes, desk-read-number-fixes, desk-batch-number-fixes, desk-claim-number-fixes, desk-lent-write-image-fixes, desk-lent-read-image-fixes, desk-lent-add-batch-fixes}
 
 -- ---- the same every time: NaR, or a posit, or anything else
 pub p32e2-neg-not-constant : NoConstant p32e2-neg-fixes (λ κs a r u. r .0)
@@ -105,6 +109,19 @@ desk-add-batch-not-constant = constant-fails _ (λ κs a x u p. p .0) ([], ([], 
 pub desk-check-claim-not-constant : NoConstant desk-check-claim-fixes (λ κs a r u. claimNumber r)
 unfolding everything
 desk-check-claim-not-constant = constant-fails _ (λ κs a x u p. p) ([], ([], ([], tt))) (to [], (to [], (to (bytes 0), tt))) (to [], (to [], (to [], tt))) tt tt tt
+
+-- the same number for every answer of the desk
+pub desk-write-number-not-constant : NoConstant desk-write-number-fixes (λ κs a r u. r)
+desk-write-number-not-constant = constant-fails _ (λ κs a x u p. p) tt (write.Written, tt) (write.BufferTooShort, tt) tt tt tt
+
+pub desk-read-number-not-constant : NoConstant desk-read-number-fixes (λ κs a r u. r)
+desk-read-number-not-constant = constant-fails _ (λ κs a x u p. p) tt (read.Read, tt) (read.WrongLength, tt) tt tt tt
+
+pub desk-batch-number-not-constant : NoConstant desk-batch-number-fixes (λ κs a r u. r)
+desk-batch-number-not-constant = constant-fails _ (λ κs a x u p. p) tt (batch.Added, tt) (batch.UnequalLists, tt) tt tt tt
+
+pub desk-claim-number-not-constant : NoConstant desk-claim-number-fixes (λ κs a r u. r)
+desk-claim-number-not-constant = constant-fails _ (λ κs a x u p. p) tt (claim.Right, tt) (claim.Differs, tt) tt tt tt
 
 -- ---- a claim check that accepts every claim of the right length
 pub desk-check-claim-not-lax : NotAlways desk-check-claim-fixes (λ κs a r u. claimNumber r) (λ κs a. length (a .1 .1 .0 .now) ≡ 64) (λ κs a. 0)
