@@ -12,7 +12,8 @@ use Rattle.posit.specs.Operation.{sum, difference, product, quotient, fusedSum,
 use Rattle.posit.specs.Accumulator.{isNotReal, isClear, ofPosit, ofProduct, plus, minus, negated, toPosit, words, fromWords}
 use Rattle.desk.specs.Desk.{afterBatch}
 use Rattle.quire_words.specs.Words.{wide}
-use Rattle.one_answer.proofs.Engines.{NoConstant, NotAlways, Never, constant-fails, always-fails, never}
+use Rattle.one_answer.specs.Engines.{NoConstant, NotAlways, Never}
+use Rattle.one_answer.proofs.Engines.{constant-fails, always-fails, never}
 use Rattle.one_answer.proofs.Arguments.{bits, to, eight, bytes, lent}
 use Rattle.one_answer.proofs.Arithmetic.{p32e2-from-bits-fixes, p32e2-to-bits-fixes, p32e2-is-zero-fixes, p32e2-is-nar-fixes}
 use Rattle.one_answer.proofs.Accumulator.{quire32-init-fixes, quire32-from-bits-fixes, quire32-from-posit-fixes, quire32-to-bits-fixes, quire32-to-posit-fixes, quire32-is-zero-fixes, quire32-is-nar-fixes, quire32-neg-fixes, quire32-clear-fixes, quire32-into-two-posits-fixes, quire32-into-three-posits-fixes}

@@ -1,4 +1,3 @@
-mod Fixes
 mod Determined
 mod Arithmetic
 mod Accumulator

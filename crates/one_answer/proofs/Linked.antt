@@ -1,6 +1,6 @@
 -- One promise, one answer, of every function that C and Rust link. The statement is `Fixes` (Fixes.antt); p and p′ say that two results meet the contract.
 use mathlib.Core.Path.{_≡_, refl, sym, _∙_}
-use Rattle.one_answer.proofs.Fixes.{Fixes}
+use Rattle.one_answer.specs.Fixes.{Fixes}
 use Rattle.capi.proofs as capi
 
 pub capi-neg-fixes : Fixes capi.posits.stallhitch_p32e2_neg.ended capi.posits.stallhitch_p32e2_neg.Reads.Pre capi.posits.stallhitch_p32e2_neg.Reads.Post

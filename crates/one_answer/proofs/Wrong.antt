@@ -14,7 +14,8 @@ use Rattle.desk.specs.declared.image.WriteAnswer.the-variants as write
 use Rattle.desk.specs.declared.image.ReadAnswer.the-variants as read
 use Rattle.desk.specs.declared.batch.BatchAnswer.the-variants as batch
 use Rattle.desk.specs.declared.claim.ClaimAnswer.the-variants as claim
-use Rattle.one_answer.proofs.Engines.{NoConstant, NotAlways, Never, constant-fails, always-fails, never}
+use Rattle.one_answer.specs.Engines.{NoConstant, NotAlways, Never}
+use Rattle.one_answer.proofs.Engines.{constant-fails, always-fails, never}
 use Rattle.one_answer.proofs.Arguments.{bits, to, eight, bytes, lent}
 use Rattle.one_answer.proofs.Arithmetic.{p32e2-neg-fixes, p32e2-add-fixes, p32e2-sub-fixes, p32e2-mul-fixes, p32e2-div-fixes, p32e2-recip-fixes, p32e2-sqrt-fixes, p32e2-mul-add-fixes, p32e2-mul-sub-fixes, p32e2-sub-product-fixes}
 use Rattle.one_answer.proofs.Accumulator.{quire-steps-add-product-fixes, quire-steps-sub-product-fixes, quire-steps-add-posit-fixes, quire-steps-sub-posit-fixes, quire-steps-neg-fixes, quire-steps-from-posit-fixes, quire-totals-to-posit-fixes, quire32-add-product-fixes, quire32-sub-product-fixes, quire32-add-posit-fixes, quire32-sub-posit-fixes}
