@@ -28,7 +28,7 @@ pub fn div(p: u32, q: u32) -> u32
 }
 
 // The quotient of two sizes, rounded, with its sign. The significands' quotient has its leading one at bit 31 or 32, which `pack` does not read, and the
-// remainder is the sticky bit.
+// remainder is the sticky bit. Sizes of one scale have the scale 1024 of `pack`, or one less where the quotient is below 1.
 fn div_sizes(negative: bool, a: u32, b: u32) -> u32
     requires { ⌜ Real a × Real b ⌝ }
     ensures { λ r. ⌜ r ≡ signed 31 negative (round 2 31 packedUnit (ratio (size 2 31 scaledUnit (unsigned 31 a) * 2 ^ packedUnit) (size 2 31 scaledUnit (unsigned 31 b)))) ⌝ }

@@ -30,7 +30,7 @@ posit-term p c g short real s =
     let in-scale = s .of-real real .in-scale in
     record {
       is =
-          sym (value-unit 2 31 p 240 finerBy short (real .1) (lit≤ tt))
+          sym (value-unit 2 31 p (unit 2 31) finerBy short (real .1) (lit≤ tt))
           ∙ value-scaled p c g short (real .1) s (packedUnit - scaledUnit)
           ∙ ap (withSign (isNegative 31 p)) (same-power g c (packedUnit - scaledUnit) 32 (c + 904) (omega arith));
       normal = omega arith;

@@ -7,7 +7,7 @@ use native.Mathlib.Nat.{lt-of-le-of-lt}
 use native.Mathlib.Decide.{ℕ-discrete}
 use borrow.Author.Tests.{eq-eqb}
 use lib.Dec.{lit<, lit≤}
-use Rattle.posit.specs.Pattern.{nar, least}
+use Rattle.posit.specs.Pattern.{nar, least, unit}
 use Rattle.posit.specs.Exact.{Exact, Sound}
 use Rattle.posit.specs.Rounding.{Rounds, round}
 use Rattle.posit.specs.Operation.{exact}
@@ -56,7 +56,7 @@ own-value p l = go (ℕ-discrete p (nar 31))
   where
     go : Dec (p ≡ nar 31) → toPosit 2 31 (ofPosit 2 31 p) ≡ p
     go (yes e) = rw (eq-eqb p (nar 31) e) (sym e)
-    go (no n) = ap (toPosit 2 31) (posit-total p n) ∙ rounded-own 2 31 240 (lit< tt) (lit≤ tt) p l n
+    go (no n) = ap (toPosit 2 31) (posit-total p n) ∙ rounded-own 2 31 (unit 2 31) (lit< tt) (lit≤ tt) p l n
 
 -- p goes into an accumulator and is rounded out of it
 pub own-value-back : (p : ℕ) (q : List ℕ) (r : P32E2) → p < 2 ^ 32 → from-posit.Post tt (record { 0 = p }, tt) q (record { 0 = p }, tt) → to-posit.Post tt (q, tt) r (q, tt) → r .0 ≡ p

@@ -13,7 +13,7 @@ use lib.Dec.{ltb, lit<, lit≤}
 use lib.IntN.{ℤ, pos, negsuc, negℤ, natAbs, _+ℤ_, _-ℤ_, _*ℤ_, +ℤ-comm}
 use lib.ListN.{length}
 use lib.Pow.{pow-pos}
-use Rattle.posit.specs.Pattern.{nar, isNegative, unsigned, size, value}
+use Rattle.posit.specs.Pattern.{nar, isNegative, unsigned, size, value, least, unit}
 use Rattle.posit.specs.Operation.{exact, exactProduct}
 use Rattle.posit.specs.Accumulator.{State, notReal, total, kept, ofPosit, ofProduct, plus, minus, negated}
 use Rattle.posit.proofs.Size.{size-le, largest-size}
@@ -107,13 +107,13 @@ value-at-most u p h n = go (ℕ-discrete p 0)
 
 pub posit-at-most : (p : ℕ) → Number p → natAbs (exact 2 31 p) ≤ 2 ^ 480
 unfolding exact
-posit-at-most p n = le-trans (value-at-most 240 p (lit≤ tt) n) (lit≤ tt)
+posit-at-most p n = le-trans (value-at-most (unit 2 31) p (lit≤ tt) n) (lit≤ tt)
 
 product-at-most : (a b : ℕ) → Number a → Number b → natAbs (exactProduct 2 31 a b) ≤ 2 ^ 480
 unfolding exactProduct
 product-at-most a b n m =
-    rw (abs-product (value 2 31 120 a) (value 2 31 120 b))
-    (le-trans (mul-le-mul-left (natAbs (value 2 31 120 a)) (value-at-most 120 b (lit≤ tt) m)) (mul-le-mul-right (2 ^ 240) (value-at-most 120 a (lit≤ tt) n)))
+    rw (abs-product (value 2 31 (least 2 31) a) (value 2 31 (least 2 31) b))
+    (le-trans (mul-le-mul-left (natAbs (value 2 31 (least 2 31) a)) (value-at-most (least 2 31) b (lit≤ tt) m)) (mul-le-mul-right (2 ^ unit 2 31) (value-at-most (least 2 31) a (lit≤ tt) n)))
 
 added : (M : ℕ) (t x : ℤ) → natAbs x ≤ M → natAbs (t +ℤ x) ≤ natAbs t + M
 added M t x h = omega (arith, abs-sum t x)

@@ -96,6 +96,7 @@ struct Leading {
     more: bool,
 }
 
+// Word 0 stands 448 digits above the accumulator's unit, and that one 846 above the unit of `pack`.
 fn first_digits(w: [u64; 8]) -> Leading
     requires { ⌜ 0 < wide w ⌝ }
     ensures { λ r. ⌜ Leads (wide w) (r .unit) (r .digits) (r .more) ⌝ }

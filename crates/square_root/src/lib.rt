@@ -6,7 +6,7 @@ use rounding::pack;
 use unpacking::NAR;
 use unpacking::scaled::scaled_of;
 
-// The scale is halved, and where it is odd the significand is doubled first.
+// The scale is halved, and where it is odd the significand is doubled first. Half the scale of 1 is 60, and that of `pack` 1024.
 pub fn sqrt(p: u32) -> u32
     ensures { λ r. ⌜ r ≡ squareRoot 2 31 p ⌝ }
 {
