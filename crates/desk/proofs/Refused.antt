@@ -1,14 +1,13 @@
 -- What each refusal is, and what it leaves: the number by the test that gives it, and the state, the buffer or the claim's answer behind it.
-use mathlib.Core.Path.{_≡_, refl, sym, ap, _∙_}
+use mathlib.Core.Path.{_≡_, ap}
 use mathlib.Core.Logic.{_≢_}
-use mathlib.Core.Bool.{Bool, true, false, cond}
+use mathlib.Core.Bool.{Bool, cond}
 use mathlib.Core.List.{List, _++_}
-use Prim.Native.Nat.{ℕ, _+_, _≤_, _<_}
+use Prim.Native.Nat.{ℕ, _≤_, _<_}
 use borrow.Author.Tests.{eq-eqb, ne-eqb, lt-ltb, le-ltb}
-use lib.Dec.{eqb}
 use lib.ListN.{length, drop}
 use Rattle.posit.specs.Digits.{number, same}
-use Rattle.posit.specs.Accumulator.{State, clear, image, words, fromWords, fromImage, stateOf}
+use Rattle.posit.specs.Accumulator.{State, clear, image, fromWords, fromImage, stateOf}
 use Rattle.desk.specs.Batch.{batch}
 use Rattle.desk.specs.Desk.{pairLimit, lengthRefusal, bufferRefusal, batchRefusal, claimRefusal, writtenTo, readInto, afterBatch}
 use Rattle.quire_words.specs.Words.{wide}

@@ -1,8 +1,8 @@
 -- Digits one by one: which digit stands at a place, a digit to a finer base as a part of one to a coarser, and an array that is filled from the front with the
 -- digits of a number (`filled-digits`). Words and image are the digits of one number (`image-digits`).
 use mathlib.Core.Path.{_≡_, refl, sym, ap, _∙_}
-use mathlib.Core.List.{List, [], _∷_}
-use Prim.Native.Nat.{ℕ, zero, suc, _+_, _-_, _*_, _/_, _%_, _^_, _≤_, _<_}
+use mathlib.Core.List.{List}
+use Prim.Native.Nat.{ℕ, zero, suc, _+_, _-_, _*_, _/_, _%_, _^_, _<_}
 use native.Mathlib.Nat.{not-suc-le-zero, div-div-eq-div-mul, mod-lt, mul-pos}
 use native.Mathlib.Decide.{decLt}
 use native.Mathlib.Omega.{arith}
@@ -13,7 +13,7 @@ use lib.Dec.{lit<}
 use lib.ListN.{length, getD, set, length-set}
 use lib.Pow.{pow-pos, pow-add}
 use lib.Seq.{ext-getD, getD-set-same, getD-set-other}
-use Rattle.posit.specs.Digits.{digits, number, InBase}
+use Rattle.posit.specs.Digits.{digits, InBase}
 use Rattle.posit.specs.Accumulator.{State, bitsOf, image, words, fromWords}
 use Rattle.posit.proofs.Arith.{pow-sum, pow-mul}
 use Rattle.posit.proofs.Digits.{length-digits, digits-number}

@@ -1,6 +1,6 @@
 -- Loops from the front of a list: what is left of it at i is drop i of it, and each turn takes one element off. So are the pairs of a batch added, the bytes
 -- of a word and the words of an image put together, and two lists compared.
-use mathlib.Core.Path.{_≡_, refl, sym, ap, ap₂, _∙_}
+use mathlib.Core.Path.{_≡_, refl, sym, ap, _∙_}
 use mathlib.Core.List.{List, [], _∷_}
 use mathlib.Core.Bool.{Bool, _&&_, and-assoc, and-true}
 use Prim.Native.Nat.{ℕ, zero, suc, _+_, _-_, _*_, _^_, _<_, _≤_}

@@ -2,7 +2,7 @@
 -- definitions agree with answers worked out without them, by tools/vectors.py from our own rules: `python3 tools/vectors.py desk` prints the
 -- cases, and with `--check` it says whether those below are the same, line for line.
 use mathlib.Core.List.{List, [], _∷_, _++_}
-use Prim.Native.Nat.{ℕ, _*_, _^_}
+use Prim.Native.Nat.{_*_, _^_}
 use lib.IntN.{pos}
 use lib.Dec.{T}
 use lib.ListN.{replicate}

@@ -3,7 +3,7 @@
 use mathlib.Core.Path.{_≡_, refl, sym, ap, subst₂, _∙_}
 use mathlib.Core.Bool.{Bool, true, false, Bool·beq}
 use Prim.Native.Nat.{ℕ, zero, suc, _+_, _-_, _*_, _/_, _%_, _^_, _≤_, _<_}
-use native.Mathlib.Nat.{pow-suc, lt-of-lt-of-le, le-trans, mul-le-mul-left, mul-le-mul-right, mul-lt-mul-of-pos-right, div-add-mod', mod-lt, mod-one, mul-pos, mul-assoc, add-mul}
+use native.Mathlib.Nat.{pow-suc, lt-of-lt-of-le, le-trans, mul-le-mul-left, mul-le-mul-right, mul-lt-mul-of-pos-right, div-add-mod', mod-lt, mod-one, mul-assoc, add-mul}
 use native.Mathlib.Decide.{decLt}
 use native.Mathlib.Omega.{arith}
 use borrow.Author.Tests.{lt-ltb, le-ltb, ltb-true, ltb-false}

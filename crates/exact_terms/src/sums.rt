@@ -1,7 +1,7 @@
 // The sum of two exact terms, rounded once: align, add or subtract, normalise.
 ghost use mathlib.Core.Path.{_≡_};
 ghost use mathlib.Core.Bool.{true, cond};
-ghost use Prim.Native.Nat.{_+_, _-_, _*_, _/_, _%_, _^_, _≤_, _<_};
+ghost use Prim.Native.Nat.{_+_, _-_, _/_, _%_, _^_, _≤_, _<_};
 ghost use lib.Dec.{ltb};
 ghost use lib.IntN.{_+ℤ_};
 ghost use Rattle.posit.specs.Exact.{Exact, Sound};

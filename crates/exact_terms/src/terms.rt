@@ -1,6 +1,6 @@
 // Exact terms with their signs: a posit, or the whole product of two.
 ghost use mathlib.Core.Path.{_≡_};
-ghost use Prim.Native.Nat.{_+_, _*_, _^_};
+ghost use Prim.Native.Nat.{_+_, _*_};
 ghost use Rattle.posit.specs.Rounding.{rounded};
 ghost use Rattle.posit.specs.Operation.{exact, exactProduct};
 ghost use Rattle.rounding.specs.Packed.{packedUnit};

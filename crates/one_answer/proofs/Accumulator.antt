@@ -1,5 +1,5 @@
 -- One promise, one answer, of every public function on the accumulator. The statement is `Fixes` (Fixes.antt); p and p′ say that two results meet the contract.
-use mathlib.Core.Path.{_≡_, refl, sym, ap, _∙_}
+use mathlib.Core.Path.{refl, sym, _∙_}
 use lib.ListN.{getD}
 use Rattle.one_answer.specs.Fixes.{Fixes, FixesTyped, FixesLent}
 use Rattle.one_answer.proofs.Determined.{same-words}

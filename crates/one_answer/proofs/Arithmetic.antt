@@ -1,5 +1,5 @@
 -- One promise, one answer, of every public function on posits and their patterns. The statement is `Fixes` (Fixes.antt); p and p′ say that two results meet the contract.
-use mathlib.Core.Path.{_≡_, refl, sym, _∙_}
+use mathlib.Core.Path.{refl, sym, _∙_}
 use Rattle.one_answer.specs.Fixes.{Fixes}
 use Rattle.one_answer.proofs.Determined.{unpacked, scaled-one}
 use Rattle.rounding.proofs as rounding

@@ -10,7 +10,6 @@ use native.Mathlib.Omega.{arith}
 use borrow.Kind.Array.{rArr, eInt, eInt-laws}
 use mir.Syntax.{w64}
 use lib.Dec.{eqb}
-use lib.ListN.{length}
 use lib.Pow.{pow-pos, pow-mono, pow-add, shl-lt, shl-shr}
 use Rattle.posit.specs.Pattern.{nar, unsigned}
 use Rattle.posit.specs.Digits.{digits}

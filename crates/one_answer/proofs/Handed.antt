@@ -1,8 +1,8 @@
 -- Wrong engines for functions that hand over to another function: each says what a neighbour of that function would, or does nothing. None meets the contract; the arguments on which it fails are computed by the definitions.
 use mathlib.Core.Path.{_≡_, refl, ap}
-use mathlib.Core.Bool.{Bool, cond}
 use mathlib.Core.List.{List, [], _∷_}
 use Prim.Native.Nat.{ℕ, _+_, _-_, _^_}
+use mir.Val.{boolByte}
 use lib.Dec.{eqb}
 use lib.ListN.{length, getD, take}
 use Rattle.desk.proofs.Computing.{everything}
@@ -19,10 +19,6 @@ use Rattle.one_answer.proofs.Arithmetic.{p32e2-from-bits-fixes, p32e2-t
 use Rattle.one_answer.proofs.Accumulator.{quire32-init-fixes, quire32-from-bits-fixes, quire32-from-posit-fixes, quire32-to-bits-fixes, quire32-to-posit-fixes, quire32-is-zero-fixes, quire32-is-nar-fixes, quire32-neg-fixes, quire32-clear-fixes, quire32-into-two-posits-fixes, quire32-into-three-posits-fixes}
 use Rattle.one_answer.proofs.Linked.{capi-neg-fixes, capi-add-fixes, capi-sub-fixes, capi-mul-fixes, capi-div-fixes, capi-recip-fixes, capi-sqrt-fixes, capi-mul-add-fixes, capi-mul-sub-fixes, capi-sub-product-fixes, capi-q-clear-fixes, capi-q-add-product-fixes, capi-q-sub-product-fixes, capi-q-add-posit-fixes, capi-q-sub-posit-fixes, capi-q-neg-fixes, capi-q-to-posit-fixes, capi-q-is-zero-fixes, capi-q-is-nar-fixes, capi-write-image-fixes, capi-read-image-fixes, capi-add-batch-fixes, capi-check-claim-fixes}
 
--- a yes or no as a number, to be looked at
-abbrev yes : Bool → ℕ
-yes b = cond b 1 0
-
 -- ---- P32E2: the same every time, or the other question
 pub p32e2-from-bits-not-constant : NoConstant p32e2-from-bits-fixes (λ κs a r u. r .0)
 p32e2-from-bits-not-constant = constant-fails _ (λ κs a x u p. p) tt (0, tt) (1, tt) tt tt tt
@@ -30,11 +26,11 @@ p32e2-from-bits-not-constant = constant-fails _ (λ κs a x u p. p) tt (0, tt) (
 pub p32e2-to-bits-not-constant : NoConstant p32e2-to-bits-fixes (λ κs a r u. r)
 p32e2-to-bits-not-constant = constant-fails _ (λ κs a x u p. p) tt (bits 0, tt) (bits 1, tt) tt tt tt
 
-pub p32e2-is-zero-not-is-nar : Never p32e2-is-zero-fixes (λ κs a r u. yes r) (λ κs a. yes (eqb (a .0 .0) (nar 31)))
-p32e2-is-zero-not-is-nar = never _ (λ κs a x u p. ap yes p) tt (bits 0, tt) tt tt
+pub p32e2-is-zero-not-is-nar : Never p32e2-is-zero-fixes (λ κs a r u. boolByte r) (λ κs a. boolByte (eqb (a .0 .0) (nar 31)))
+p32e2-is-zero-not-is-nar = never _ (λ κs a x u p. ap boolByte p) tt (bits 0, tt) tt tt
 
-pub p32e2-is-nar-not-is-zero : Never p32e2-is-nar-fixes (λ κs a r u. yes r) (λ κs a. yes (eqb (a .0 .0) 0))
-p32e2-is-nar-not-is-zero = never _ (λ κs a x u p. ap yes p) tt (bits 0, tt) tt tt
+pub p32e2-is-nar-not-is-zero : Never p32e2-is-nar-fixes (λ κs a r u. boolByte r) (λ κs a. boolByte (eqb (a .0 .0) 0))
+p32e2-is-nar-not-is-zero = never _ (λ κs a x u p. ap boolByte p) tt (bits 0, tt) tt tt
 
 -- ---- Q32E2
 pub quire32-init-not-one : Never quire32-init-fixes (λ κs a r u. wide (r .0)) (λ κs a. 2 ^ 240)
@@ -57,13 +53,13 @@ pub quire32-to-posit-not-opposite : Never (quire32-to-posit-fixes .fixes) (λ κ
 unfolding everything quire32-to-posit-fixes
 quire32-to-posit-not-opposite = never _ (λ κs a x u p. p) ([], tt) (lent 1, tt) tt tt
 
-pub quire32-is-zero-not-is-nar : Never (quire32-is-zero-fixes .fixes) (λ κs a r u. yes r) (λ κs a. yes (isNotReal (fromWords 512 (a .0 .now .0))))
+pub quire32-is-zero-not-is-nar : Never (quire32-is-zero-fixes .fixes) (λ κs a r u. boolByte r) (λ κs a. boolByte (isNotReal (fromWords 512 (a .0 .now .0))))
 unfolding everything quire32-is-zero-fixes
-quire32-is-zero-not-is-nar = never _ (λ κs a x u p. ap yes p) ([], tt) (lent 0, tt) tt tt
+quire32-is-zero-not-is-nar = never _ (λ κs a x u p. ap boolByte p) ([], tt) (lent 0, tt) tt tt
 
-pub quire32-is-nar-not-is-zero : Never (quire32-is-nar-fixes .fixes) (λ κs a r u. yes r) (λ κs a. yes (isClear (fromWords 512 (a .0 .now .0))))
+pub quire32-is-nar-not-is-zero : Never (quire32-is-nar-fixes .fixes) (λ κs a r u. boolByte r) (λ κs a. boolByte (isClear (fromWords 512 (a .0 .now .0))))
 unfolding everything quire32-is-nar-fixes
-quire32-is-nar-not-is-zero = never _ (λ κs a x u p. ap yes p) ([], tt) (lent 0, tt) tt tt
+quire32-is-nar-not-is-zero = never _ (λ κs a x u p. ap boolByte p) ([], tt) (lent 0, tt) tt tt
 
 pub quire32-neg-not-idle : Never (quire32-neg-fixes .fixes) (λ κs a r u. wide (u .0 .0)) (λ κs a. wide (a .0 .now .0))
 unfolding everything quire32-neg-fixes
@@ -153,13 +149,13 @@ pub capi-q-to-posit-not-opposite : Never capi-q-to-posit-fixes (λ κs a r u. r)
 unfolding everything
 capi-q-to-posit-not-opposite = never _ (λ κs a x u p. p) ([], tt) (to (eight 1), tt) tt tt
 
-pub capi-q-is-zero-not-is-nar : Never capi-q-is-zero-fixes (λ κs a r u. yes r) (λ κs a. yes (isNotReal (fromWords 512 (a .0 .now))))
+pub capi-q-is-zero-not-is-nar : Never capi-q-is-zero-fixes (λ κs a r u. boolByte r) (λ κs a. boolByte (isNotReal (fromWords 512 (a .0 .now))))
 unfolding everything
-capi-q-is-zero-not-is-nar = never _ (λ κs a x u p. ap yes p) ([], tt) (to (eight 0), tt) tt tt
+capi-q-is-zero-not-is-nar = never _ (λ κs a x u p. ap boolByte p) ([], tt) (to (eight 0), tt) tt tt
 
-pub capi-q-is-nar-not-is-zero : Never capi-q-is-nar-fixes (λ κs a r u. yes r) (λ κs a. yes (isClear (fromWords 512 (a .0 .now))))
+pub capi-q-is-nar-not-is-zero : Never capi-q-is-nar-fixes (λ κs a r u. boolByte r) (λ κs a. boolByte (isClear (fromWords 512 (a .0 .now))))
 unfolding everything
-capi-q-is-nar-not-is-zero = never _ (λ κs a x u p. ap yes p) ([], tt) (to (eight 0), tt) tt tt
+capi-q-is-nar-not-is-zero = never _ (λ κs a x u p. ap boolByte p) ([], tt) (to (eight 0), tt) tt tt
 
 -- ---- claims
 pub capi-write-image-not-idle : Never capi-write-image-fixes (λ κs a r u. number 256 (u .1 .0)) (λ κs a. number 256 (a .1 .0 .now))

@@ -1,13 +1,20 @@
--- Facts on numbers that several files need: remainders of products, sums of powers, one less than the next.
+-- Facts on numbers that several files need: remainders of products, powers, one less than the next, a bool as a digit.
 use mathlib.Core.Path.{_≡_, sym, ap, _∙_}
+use mathlib.Core.Bool.{Bool, true, false}
 use Prim.Native.Nat.{ℕ, zero, suc, _+_, _-_, _*_, _%_, _^_, _<_}
 use native.Mathlib.Nat.{add-zero, mul-comm, mul-assoc, mul-div-cancel, mul-mod-left, mul-zero, mul-suc, pow-zero, pow-suc}
 use native.Mathlib.Omega.{arith}
 use lib.Arith.{mod-mul}
+use lib.Dec.{lit<}
+use mir.Val.{boolByte}
 use lib.Pow.{pow-add}
 
 pub suc-sub-one : (n : ℕ) → suc n - 1 ≡ n
 suc-sub-one n = omega arith
+
+pub digit-lt : (s : Bool) → boolByte s < 2
+digit-lt true = lit< tt
+digit-lt false = lit< tt
 
 pub mul-mod-mul : (a : ℕ) {m c : ℕ} → 0 < m → 0 < c → a * c % (m * c) ≡ a % m * c
 mul-mod-mul a {m} {c} h k = rw (mod-mul (a * c) h k, mul-div-cancel a k, mul-mod-left a c, add-zero)

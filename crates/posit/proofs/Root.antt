@@ -2,7 +2,7 @@
 -- that it is taken of in units of 2 ^ - v for any v that is fine enough. The square of the root's unit is then 2 ^ n units of the size's.
 use mathlib.Core.Path.{_≡_, sym, ap, _∙_}
 use Prim.Native.Nat.{ℕ, suc, _+_, _-_, _*_, _^_, _≤_}
-use native.Mathlib.Nat.{mul-assoc, mul-pos, mul-le-mul-left}
+use native.Mathlib.Nat.{mul-assoc, mul-pos}
 use native.Mathlib.Decide.{ℕ-discrete}
 use native.Mathlib.Omega.{arith}
 use borrow.Author.Tests.{eq-eqb, ne-eqb, lt-ltb, le-ltb}

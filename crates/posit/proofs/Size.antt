@@ -8,9 +8,10 @@ use native.Mathlib.Numerals.{add-one}
 use native.Mathlib.Decide.{decLt}
 use native.Mathlib.Omega.{arith}
 use lib.Pow.{pow-pos, pow-add}
+use mir.Val.{boolByte}
 use Rattle.posit.specs.Pattern.{regimeOf, raised, size, least}
 use Rattle.posit.proofs.Tail.{tail, tail-mono, tail-none, tail-all, tail-unit, tail-double}
-use Rattle.posit.proofs.Built.{bit, built, by-shape, size-built, size-ones}
+use Rattle.posit.proofs.Built.{built, by-shape, size-built, size-ones}
 
 -- ---- patterns one after the other
 
@@ -48,7 +49,7 @@ power e = ap (λ (x : ℕ). 2 ^ x) e
 
 -- with the digit o, of which there are m + 1
 unfoldable pub scale : ℕ → ℕ → Bool → ℕ → ℕ
-scale es u o m = raised es u (regimeOf (bit o) (suc m))
+scale es u o m = raised es u (regimeOf (boolByte o) (suc m))
 
 module _ (es u : ℕ) where
   pub scale-ones : (m : ℕ) → scale es u true m ≡ u + 2 ^ es * m

@@ -10,11 +10,12 @@ use native.Mathlib.Omega.{arith}
 use borrow.Author.Tests.{lt-ltb, le-ltb}
 use lib.IntN.{pos, natAbs, _*ℤ_, zero-*ℤ}
 use lib.Pow.{pow-pos}
+use mir.Val.{boolByte}
 use Rattle.posit.specs.Pattern.{nar, opposite, isNegative, unsigned, Positive, regime, regimeOf, left, exponent, size, value, least}
 use Rattle.posit.proofs.Value.{opposite-positive, value-zero, value-positive, value-negative}
 use Rattle.posit.proofs.Signs.{withSign, scaled-sign}
 use Rattle.posit.proofs.Size.{size-unit}
-use Rattle.posit.proofs.Built.{bit, by-shape, regime-built, regime-ones}
+use Rattle.posit.proofs.Built.{by-shape, regime-built, regime-ones}
 
 -- ---- a pattern b above 0
 
@@ -28,7 +29,7 @@ regime-small w b k =
     (k .0)
     (k .1)
   where
-    short : (o : Bool) (m l : ℕ) → natAbs (regimeOf (bit o) (suc m)) < suc m + suc l
+    short : (o : Bool) (m l : ℕ) → natAbs (regimeOf (boolByte o) (suc m)) < suc m + suc l
     short true m l = omega arith
     short false m l = omega arith
 

@@ -4,7 +4,7 @@
 -- accumulator's range from our own rule. `python3 tools/vectors.py posit` prints the cases, and with `--check` it says whether those below are
 -- the same, line for line.
 use mathlib.Core.List.{List, [], _∷_, _++_}
-use Prim.Native.Nat.{ℕ, _+_, _-_, _*_, _^_}
+use Prim.Native.Nat.{_+_, _-_, _*_, _^_}
 use lib.IntN.{pos, negsuc}
 use lib.Dec.{T}
 use lib.ListN.{replicate}

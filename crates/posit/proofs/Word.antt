@@ -8,9 +8,10 @@ use native.Mathlib.Decide.{ℕ-discrete, decLt}
 use native.Mathlib.Omega.{arith}
 use lib.Count.{leadingZeros, leading-length, leading-unique}
 use lib.Pow.{pow-pos, pow-add, high}
+use mir.Val.{boolByte}
 use Rattle.posit.specs.Pattern.{run, first, left, exponent, fraction}
 use Rattle.posit.proofs.Arith.{mul-mod-mul}
-use Rattle.posit.proofs.Built.{bit, run-more, run-ends, first-lt, the-other, digit-first}
+use Rattle.posit.proofs.Built.{run-more, run-ends, first-lt, the-other, digit-first}
 
 -- ---- the run
 
@@ -36,28 +37,28 @@ zeroed-lt : (o : Bool) (w b : ℕ) → b < 2 ^ w → zeroed o w b < 2 ^ w
 zeroed-lt true w b h = omega arith
 zeroed-lt false w b h = h
 
-zeroed-more : (o : Bool) (w b : ℕ) → b ≡ bit o * 2 ^ w + b % 2 ^ w → zeroed o (suc w) b ≡ zeroed o w (b % 2 ^ w)
+zeroed-more : (o : Bool) (w b : ℕ) → b ≡ boolByte o * 2 ^ w + b % 2 ^ w → zeroed o (suc w) b ≡ zeroed o w (b % 2 ^ w)
 zeroed-more true w b e = omega (arith, pow-suc 2 w)
 zeroed-more false w b e = omega arith
 
-zeroed-ends : (o : Bool) (w b : ℕ) → b ≡ bit (not o) * 2 ^ w + b % 2 ^ w → 2 ^ w ≤ zeroed o (suc w) b
+zeroed-ends : (o : Bool) (w b : ℕ) → b ≡ boolByte (not o) * 2 ^ w + b % 2 ^ w → 2 ^ w ≤ zeroed o (suc w) b
 zeroed-ends true w b e = omega (arith, pow-suc 2 w, mod-lt b (pow-pos w))
 zeroed-ends false w b e = omega arith
 
 module _ (o : Bool) (w b : ℕ) (h : b < 2 ^ suc w) where
-  run-leading-more : run (bit o) w (b % 2 ^ w) ≡ leadingZeros w (zeroed o w (b % 2 ^ w)) → Dec (b / 2 ^ w ≡ bit o)
-      → run (bit o) (suc w) b ≡ leadingZeros (suc w) (zeroed o (suc w) b)
+  run-leading-more : run (boolByte o) w (b % 2 ^ w) ≡ leadingZeros w (zeroed o w (b % 2 ^ w)) → Dec (b / 2 ^ w ≡ boolByte o)
+      → run (boolByte o) (suc w) b ≡ leadingZeros (suc w) (zeroed o (suc w) b)
   run-leading-more rest (yes e) =
-      rw (zeroed-more o w b (digit-first w b (bit o) e), leading-more w (zeroed o w (b % 2 ^ w)) (zeroed-lt o w (b % 2 ^ w) (mod-lt b (pow-pos w))))
-      (run-more (bit o) w b e ∙ ap suc rest)
+      rw (zeroed-more o w b (digit-first w b (boolByte o) e), leading-more w (zeroed o w (b % 2 ^ w)) (zeroed-lt o w (b % 2 ^ w) (mod-lt b (pow-pos w))))
+      (run-more (boolByte o) w b e ∙ ap suc rest)
   run-leading-more rest (no n) =
-      let e = digit-first w b (bit (not o)) (the-other o (first-lt w b h) n) in
-      run-ends (bit o) w b n ∙ sym (leading-none w (zeroed o (suc w) b) (zeroed-ends o w b e) (zeroed-lt o (suc w) b h))
+      let e = digit-first w b (boolByte (not o)) (the-other o (first-lt w b h) n) in
+      run-ends (boolByte o) w b n ∙ sym (leading-none w (zeroed o (suc w) b) (zeroed-ends o w b e) (zeroed-lt o (suc w) b h))
 
-run-leading : (o : Bool) (w b : ℕ) → b < 2 ^ w → run (bit o) w b ≡ leadingZeros w (zeroed o w b)
+run-leading : (o : Bool) (w b : ℕ) → b < 2 ^ w → run (boolByte o) w b ≡ leadingZeros w (zeroed o w b)
 unfolding run leadingZeros
 run-leading o zero b h = refl
-run-leading o (suc w) b h = run-leading-more o w b h (run-leading o w (b % 2 ^ w) (mod-lt b (pow-pos w))) (ℕ-discrete (b / 2 ^ w) (bit o))
+run-leading o (suc w) b h = run-leading-more o w b h (run-leading o w (b % 2 ^ w) (mod-lt b (pow-pos w))) (ℕ-discrete (b / 2 ^ w) (boolByte o))
 
 pub run-le : (d w b : ℕ) → run d w b ≤ w
 unfolding run
@@ -74,14 +75,14 @@ run-positive w b =
     let e : suc w - 1 ≡ w = omega arith in
     rw (e, run-more (b / 2 ^ w) w b refl) (omega arith)
 
-pub first-is : (o : Bool) (w b : ℕ) → bit o * 2 ^ w ≤ b → b < bit o * 2 ^ w + 2 ^ w → first (suc w) b ≡ bit o
+pub first-is : (o : Bool) (w b : ℕ) → boolByte o * 2 ^ w ≤ b → b < boolByte o * 2 ^ w + 2 ^ w → first (suc w) b ≡ boolByte o
 first-is o w b l h =
     let e : suc w - 1 ≡ w = omega arith in
-    let d : b ≡ bit o * 2 ^ w + (b - bit o * 2 ^ w) = omega arith in
-    rw (e, d) (high (bit o) w (omega arith))
+    let d : b ≡ boolByte o * 2 ^ w + (b - boolByte o * 2 ^ w) = omega arith in
+    rw (e, d) (high (boolByte o) w (omega arith))
 
 -- the run of the first digit, o, by a word x of one digit more, whose others are those of b or, for ones, of its complement
-pub counted : (o : Bool) (w b x : ℕ) → first w b ≡ bit o → b < 2 ^ w → 0 < x → x / 2 ≡ zeroed o w b → leadingZeros (suc w) x ≡ run (first w b) w b
+pub counted : (o : Bool) (w b x : ℕ) → first w b ≡ boolByte o → b < 2 ^ w → 0 < x → x / 2 ≡ zeroed o w b → leadingZeros (suc w) x ≡ run (first w b) w b
 counted o w b x f h z e = leading-half w x z ∙ ap (leadingZeros w) e ∙ (rw f (sym (run-leading o w b h)))
 
 -- ---- what follows it

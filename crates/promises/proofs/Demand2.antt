@@ -1,8 +1,8 @@
 -- "The rounding that the standard gives the exact result; the accumulator holds the exact sum or NaR. Rounding a pattern's own value gives the pattern back":
 -- the first of the function by which the contracts tell a rounding, the others of the contracts of the public functions.
-use mathlib.Core.Path.{_≡_, refl, sym, ap, _∙_}
+use mathlib.Core.Path.{_≡_, sym, ap, _∙_}
 use mathlib.Core.List.{List}
-use Prim.Native.Nat.{ℕ, suc, _+_, _^_, _≤_, _<_}
+use Prim.Native.Nat.{ℕ, _^_, _≤_, _<_}
 use native.Mathlib.Nat.{lt-of-le-of-lt}
 use native.Mathlib.Decide.{ℕ-discrete}
 use borrow.Author.Tests.{eq-eqb}
@@ -11,7 +11,7 @@ use Rattle.posit.specs.Pattern.{nar, least, unit}
 use Rattle.posit.specs.Exact.{Exact, Sound}
 use Rattle.posit.specs.Rounding.{Rounds, round}
 use Rattle.posit.specs.Operation.{exact}
-use Rattle.posit.specs.Accumulator.{State, notReal, total, ofPosit, toPosit, words, fromWords, image, fromImage}
+use Rattle.posit.specs.Accumulator.{total, ofPosit, toPosit, fromWords, fromImage}
 use Rattle.posit.proofs.State.{Held}
 use Rattle.posit.proofs.Rounding.{round-meets, round-only}
 use Rattle.posit.proofs.Value.{rounded-own}

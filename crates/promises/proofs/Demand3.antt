@@ -1,30 +1,29 @@
 -- Histories of the accumulator from clear, without NaR and in range after every step: two images are equal exactly when the exact totals are; 2 ^ 31 - 1 steps
 -- never leave the range; every 64-byte string but NaR's is reached; writing and reading the image between steps changes nothing. And outside: a NaR operand, or
 -- a total outside the range, gives the NaR image from there on.
-use mathlib.Core.Path.{_≡_, refl, sym, ap, ap₂, subst, _∙_}
+use mathlib.Core.Path.{_≡_, refl, sym, ap, subst, _∙_}
 use mathlib.Core.Logic.{_≢_, _↔_, _⊎_, ⊎-elim}
 use mathlib.Core.Bool.{Bool, true, false}
 use mathlib.Core.List.{List, [], _∷_, _++_}
-use Prim.Native.Nat.{ℕ, zero, suc, _+_, _-_, _*_, _^_, _≤_, _<_, zero-le}
+use Prim.Native.Nat.{ℕ, zero, suc, _+_, _-_, _^_, _≤_, _<_}
 use native.Mathlib.Nat.{zero-mul, zero-add, add-zero}
-use native.Mathlib.Decide.{decLt, ℕ-discrete}
+use native.Mathlib.Decide.{ℕ-discrete}
 use native.Mathlib.Omega.{arith}
-use borrow.Author.Tests.{eq-eqb, ne-eqb, le-ltb}
+use borrow.Author.Tests.{eq-eqb, ne-eqb}
 use lib.Dec.{lit<, lit≤}
-use lib.IntN.{ℤ, pos, negsuc, negℤ, natAbs, _+ℤ_, _-ℤ_}
+use lib.IntN.{ℤ, pos, negsuc, natAbs, _+ℤ_, _-ℤ_}
 use lib.ListN.{length, replicate}
-use lib.Pow.{pow-pos}
 use Rattle.posit.specs.Pattern.{nar}
-use Rattle.posit.specs.Digits.{number, InBase, reading}
+use Rattle.posit.specs.Digits.{number, InBase}
 use Rattle.posit.specs.Operation.{exact, exactProduct}
-use Rattle.posit.specs.Accumulator.{State, notReal, total, clear, ofPosit, ofProduct, plus, minus, negated, words, fromWords, image, fromImage, stateOf, bitsOf}
+use Rattle.posit.specs.Accumulator.{State, notReal, total, clear, ofPosit, ofProduct, plus, minus, negated, words, fromWords, image, fromImage}
 use Rattle.posit.proofs.Computing.{everything}
 use Rattle.posit.proofs.Digits.{number-lt}
 use Rattle.posit.proofs.Signs.{withSign, sum-same}
 use Rattle.posit.proofs.State.{Held, state-held, read-image}
 use Rattle.quire_steps.proofs.Range.{size-of}
-use Rattle.promises.specs.History.{Step, addPosit, takePosit, addProduct, takeProduct, negate, throughImage, moves, totalFrom, totalOf, Number, Numbers, WithoutNar, Within, StaysBelow, StaysFrom, Stays}
-use Rattle.promises.specs.Run.{Leads, Runs, ended, next, Image, ImageOf, Cleared}
+use Rattle.promises.specs.History.{Step, addPosit, takePosit, addProduct, takeProduct, negate, throughImage, moves, totalFrom, totalOf, Numbers, WithoutNar, Within, StaysBelow, StaysFrom, Stays}
+use Rattle.promises.specs.Run.{Runs, ended, next, Image}
 use Rattle.promises.specs.Outside.{NarIn, Leaves, narOperand, outOfRange, later}
 use Rattle.promises.proofs.Tracked.{stepped, stepped-held, after, after-held, back, image-back, runs-state}
 use Rattle.promises.proofs.Totals.{posit-total, product-total, outside, abs-negated, exact-after, exact-step, stays-short}

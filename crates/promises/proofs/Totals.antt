@@ -15,7 +15,7 @@ use lib.ListN.{length}
 use lib.Pow.{pow-pos}
 use Rattle.posit.specs.Pattern.{nar, isNegative, unsigned, size, value, least, unit}
 use Rattle.posit.specs.Operation.{exact, exactProduct}
-use Rattle.posit.specs.Accumulator.{State, notReal, total, kept, ofPosit, ofProduct, plus, minus, negated}
+use Rattle.posit.specs.Accumulator.{notReal, total, kept, ofPosit, ofProduct, plus, minus, negated}
 use Rattle.posit.proofs.Size.{size-le, largest-size}
 use Rattle.posit.proofs.Signs.{withSign, by-sign, product-signs, sum-same, sum-unlike}
 use Rattle.posit.proofs.Unsigned.{unsigned-positive, value-real}

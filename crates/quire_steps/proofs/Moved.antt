@@ -3,8 +3,8 @@
 use mathlib.Core.Path.{_≡_, refl, sym, ap, _∙_}
 use mathlib.Core.Bool.{Bool, true, false}
 use mathlib.Core.List.{List, [], _∷_}
-use Prim.Native.Nat.{ℕ, zero, suc, _+_, _-_, _*_, _/_, _%_, _^_, _≤_, _<_}
-use native.Mathlib.Nat.{not-suc-le-zero, div-add-mod', pow-zero, pow-suc, pow-succ' as pow-suc', mul-div-mul-right, mul-div-cancel, add-mul, mul-one, mul-zero, mul-suc, zero-mul, one-le-pow, lt-trans, mod-lt, div-lt-iff-lt-mul, mul-lt-mul-of-pos-right, mul-lt-mul-of-pos-left}
+use Prim.Native.Nat.{ℕ, zero, suc, _+_, _-_, _*_, _/_, _%_, _^_, _<_}
+use native.Mathlib.Nat.{not-suc-le-zero, div-add-mod', pow-zero, pow-succ' as pow-suc', mul-div-mul-right, mul-div-cancel, add-mul, mul-one, zero-mul, one-le-pow, lt-trans, mod-lt, div-lt-iff-lt-mul, mul-lt-mul-of-pos-right, mul-lt-mul-of-pos-left}
 use native.Mathlib.Omega.{arith}
 use lib.Dec.{lit<}
 use lib.Pow.{pow-pos, pow-add, pow-lt, shr-shr}

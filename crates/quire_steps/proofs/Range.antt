@@ -1,6 +1,6 @@
 -- A step on the number of a state, at any half H: n is the state's number in two's complement, the operand is m with the sign s, and r the wrapped sum. Where
 -- the three signs show that the exact total has left the range, the new number is H, that of NaR; else it is r.
-use mathlib.Core.Path.{_≡_, refl, sym, ap, _∙_}
+use mathlib.Core.Path.{_≡_, refl, sym, _∙_}
 use mathlib.Core.Logic.{_≢_}
 use mathlib.Core.Bool.{Bool, true, false, cond}
 use Prim.Native.Nat.{ℕ, zero, suc, _+_, _-_, _*_, _%_, _≤_, _<_}
@@ -9,7 +9,7 @@ use native.Mathlib.Decide.{decLt}
 use native.Mathlib.Omega.{arith}
 use borrow.Author.Tests.{lt-ltb, le-ltb, le-leb, lt-leb}
 use lib.Dec.{ltb, leb}
-use lib.IntN.{ℤ, pos, negsuc, natAbs, negℤ, _+ℤ_, +ℤ-comm}
+use lib.IntN.{ℤ, natAbs, negℤ, _+ℤ_, +ℤ-comm}
 use Rattle.posit.specs.Digits.{reading, complement}
 use Rattle.posit.proofs.Complement.{reading-low, reading-high}
 use Rattle.posit.proofs.Signs.{withSign, negated-sign, sum-same, sum-unlike}

@@ -13,7 +13,7 @@ use mir.Val.{boolByte}
 use lib.Dec.{ltb, leb}
 use lib.IntN.{ℤ, pos, natAbs, _+ℤ_, +ℤ-idl}
 use lib.Pow.{pow-pos, pow-mono}
-use Rattle.posit.specs.Digits.{number, digits, reading, complement}
+use Rattle.posit.specs.Digits.{reading, complement}
 use Rattle.posit.specs.Accumulator.{State, notReal, total, kept, plus, negated, minus, bitsOf, words, fromWords}
 use Rattle.posit.proofs.Signs.{withSign, negated-sign}
 use Rattle.quire_words.specs.Words.{wide}

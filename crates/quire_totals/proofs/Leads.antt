@@ -4,13 +4,13 @@ use mathlib.Core.Path.{_≡_, refl, sym, ap, ap₂, _∙_}
 use mathlib.Core.Bool.{Bool, false, _||_}
 use mathlib.Core.List.{List}
 use Prim.Native.Nat.{ℕ, suc, _+_, _-_, _*_, _/_, _%_, _^_, _≤_, _<_}
-use native.Mathlib.Nat.{le-of-eq, add-zero, zero-mul, mul-one, mul-comm, mul-pos, mod-lt, mod-eq-of-lt, zero-div, lt-of-mul-lt-mul-right, pow-succ' as pow-suc', div-add-mod', div-lt-iff-lt-mul, mul-le-mul-right, mul-lt-mul-of-pos-right, mul-div-mul-right}
+use native.Mathlib.Nat.{le-of-eq, add-zero, zero-mul, mul-comm, mul-pos, mod-lt, mod-eq-of-lt, zero-div, lt-of-mul-lt-mul-right, pow-succ' as pow-suc', div-add-mod', div-lt-iff-lt-mul, mul-le-mul-right, mul-lt-mul-of-pos-right}
 use native.Mathlib.Decide.{decLt}
 use native.Mathlib.Omega.{arith}
 use borrow.Author.Tests.{lt-ltb, le-ltb}
 use lib.Dec.{ltb, lit<, lit≤}
 use lib.ListN.{length, getD, drop, List·getD-eq-default}
-use lib.Pow.{pow-pos, pow-add}
+use lib.Pow.{pow-pos}
 use Rattle.posit.specs.Digits.{InBase}
 use Rattle.posit.proofs.Arith.{pow-sum, mul-mod-mul, pow-mul}
 use Rattle.rounding.proofs.Terms.{finerBy}

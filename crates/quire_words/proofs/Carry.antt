@@ -1,7 +1,7 @@
 -- A loop from the last digit down to the first that writes a digit of the result and carries the rest: to any base, over any number of digits. What the
 -- digits from a place on are to be is S; it grows by one column a turn (`turn`). Sums and complements are of this kind.
 use mathlib.Core.Path.{_≡_, sym, ap, _∙_, subst}
-use mathlib.Core.List.{List, _∷_}
+use mathlib.Core.List.{List}
 use Prim.Native.Nat.{ℕ, suc, _+_, _-_, _*_, _%_, _^_, _<_, _≤_}
 use native.Mathlib.Nat.{add-comm, add-mul, mul-assoc, pow-succ' as pow-suc', sub-zero, sub-self, pow-zero, mul-one, suc-mul, zero-add, le-refl}
 use native.Mathlib.Omega.{arith}

@@ -1,7 +1,6 @@
 -- The digits of a list from a place on, to any base: their number by their first digit, the bounds of each, and where one digit is written. What the type
 -- [u64; n] says of a list is the last.
-use mathlib.Core.Path.{_≡_, refl, sym, ap, _∙_}
-use mathlib.Core.Bool.{Bool, true, false}
+use mathlib.Core.Path.{_≡_, _∙_}
 use mathlib.Core.List.{List, [], _∷_}
 use Prim.Native.Nat.{ℕ, zero, suc, _+_, _-_, _*_, _^_, _≤_, _<_}
 use native.Mathlib.Nat.{not-suc-le-zero}
@@ -9,8 +8,7 @@ use native.Mathlib.Omega.{arith}
 use borrow.Author.Needs.{needs}
 use borrow.Kind.Array.{rArr, eInt, eInt-laws}
 use mir.Syntax.{w64}
-use mir.Val.{Fits, boolByte}
-use lib.Dec.{lit≤}
+use mir.Val.{Fits}
 use lib.ListN.{length, getD, drop, set, length-set, length-drop, drop-of-length-le}
 use lib.Seq.{drop-cons, drop-set-lt, getD-set-same}
 use Rattle.posit.specs.Digits.{number, InBase}
@@ -57,6 +55,3 @@ pub wide-typed : (xs : List ℕ) → rArr {k = 0} (eInt w64) (eInt-laws w64) 8 .
 wide-typed xs o = let w = words-typed 8 xs o in rw (w .0) at (number-lt (2 ^ 64) xs (w .1))
 
 -- a bool as a number
-pub digit-le : (s : Bool) → boolByte s ≤ 1
-digit-le true = lit≤ tt
-digit-le false = lit≤ tt

@@ -11,7 +11,7 @@ use lib.Dec.{leb, ltb, lit<, lit≤}
 use lib.Pow.{pow-pos, pow-mono, shr-lt}
 use mir.Val.{boolByte}
 use Rattle.posit.specs.Pattern.{size, least}
-use Rattle.posit.specs.Exact.{Exact, whole, Sound, above}
+use Rattle.posit.specs.Exact.{Exact, whole, Sound}
 use Rattle.posit.specs.Rounding.{round}
 use Rattle.posit.proofs.Arith.{pow-sum}
 use Rattle.posit.proofs.Built.{built}

@@ -1,9 +1,9 @@
 -- Parts of patterns at four sizes, in one table under one claim that the checker computes. The answers were worked out without the definitions, by
 -- tools/vectors.py, which with `--check` says whether the cases below are still just its own, line for line.
-use mathlib.Core.Bool.{cond}
 use mathlib.Core.List.{List, [], _∷_, _++_}
 use Prim.Native.Nat.{ℕ, _*_, _^_}
 use lib.Dec.{T}
+use mir.Val.{boolByte}
 use Rattle.posit.proofs.Computing.{everything}
 use Rattle.posit.proofs.Table.{Case, are, holds, shown}
 use Rattle.unpacking.specs.Parts.{Parts, isZero, isNaR, isReal, parts}
@@ -12,7 +12,7 @@ use Rattle.unpacking.specs.Parts.{Parts, isZero, isNaR, isReal, parts}
 abbrev listed : Parts → List ℕ
 listed isZero = []
 listed isNaR = 0 ∷ []
-listed (isReal s k e m) = cond s 1 0 ∷ shown k ++ (e ∷ m ∷ [])
+listed (isReal s k e m) = boolByte s ∷ shown k ++ (e ∷ m ∷ [])
 
 vectors : List Case
 unfolding everything parts

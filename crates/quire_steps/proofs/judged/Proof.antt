@@ -1,17 +1,17 @@
 -- `judged` meets its contract: the test on the three digits is the test on the three signs (`seen`).
 use mathlib.Core.Path.{_≡_, refl, sym, ap₂, _∙_}
 use mathlib.Core.Bool.{Bool, true, false}
-use Prim.Native.Nat.{ℕ, _+_, _-_, _*_, _^_, _≤_}
+use Prim.Native.Nat.{ℕ, _+_, _-_, _*_, _^_}
 use native.Mathlib.Omega.{arith}
 use borrow.Author.Needs.{needs}
 use borrow.Author.Tests.{eq-eqb, ne-eqb}
 use lib.Dec.{eqb, leb}
 use mir.Val.{boolByte}
+use Rattle.posit.proofs.Arith.{digit-lt}
 use Rattle.posit.specs.Digits.{number, digits}
 use Rattle.posit.specs.Accumulator.{bitsOf, words}
 use Rattle.quire_words.specs.Words.{wide}
 use Rattle.quire_words.proofs.Operand.{escaped}
-use Rattle.quire_words.proofs.Places.{digit-le}
 use Rattle.quire_steps.proofs.judged.Statement.{statement}
 use Rattle.quire_steps.proofs.judged.Tie as tie
 
@@ -22,18 +22,18 @@ sign-of-requires-2 : tie.Need-sign-of-requires-2
 sign-of-requires-2 c κs = search needs
 
 mul-if1 : tie.Need-mul-if1
-mul-if1 c = record { fits = omega (arith, digit-le (leb (2 ^ 511) (wide (c .before .before .args .after))), c .sign-of2 .ensures) }
+mul-if1 c = record { fits = omega (arith, digit-lt (leb (2 ^ 511) (wide (c .before .before .args .after))), c .sign-of2 .ensures) }
 
 add-if1 : tie.Need-add-if1
 add-if1 c =
     let k = c .before .before .args in
-    record { fits = omega (arith, digit-le (leb (2 ^ 511) (wide (k .before))), digit-le (leb (2 ^ 511) (wide (k .after))), c .before .sign-of .ensures, c .sign-of2 .ensures) }
+    record { fits = omega (arith, digit-lt (leb (2 ^ 511) (wide (k .before))), digit-lt (leb (2 ^ 511) (wide (k .after))), c .before .sign-of .ensures, c .sign-of2 .ensures) }
 
 cast-if1 : tie.Need-cast-if1
 cast-if1 c = search needs
 
 sub-if1 : tie.Need-sub-if1
-sub-if1 c = omega (arith, digit-le (c .before .before .args .negative))
+sub-if1 c = omega (arith, digit-lt (c .before .before .args .negative))
 
 -- the three signs, each as a digit, tested at once
 seen : (b s a : Bool) → eqb (boolByte b + 2 * boolByte a) (2 - boolByte s) ≡ escaped b s a

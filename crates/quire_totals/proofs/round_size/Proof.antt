@@ -1,14 +1,14 @@
 -- `round_size` meets its contract: the number in the units of `pack` counts its first digits (`wide-rounds`).
-use mathlib.Core.Path.{_≡_, refl, sym, ap, _∙_}
+use mathlib.Core.Path.{_≡_, sym, ap, _∙_}
 use mathlib.Core.Bool.{Bool}
-use Prim.Native.Nat.{ℕ, suc, _+_, _*_, _/_, _%_, _^_, _≤_, _<_}
+use Prim.Native.Nat.{ℕ, _+_, _*_, _/_, _%_, _^_, _<_}
 use native.Mathlib.Nat.{mul-one, mul-pos, sub-zero, le-trans}
 use native.Mathlib.Omega.{arith}
 use borrow.Author.Needs.{needs}
 use lib.Dec.{ltb, lit≤}
-use lib.IntN.{pos, _*ℤ_}
 use lib.Pow.{pow-pos}
 use mir.Val.{boolByte}
+use Rattle.posit.proofs.Arith.{digit-lt}
 use Rattle.posit.specs.Exact.{whole}
 use Rattle.posit.specs.Rounding.{round, rounded, signed}
 use Rattle.posit.proofs.Signs.{withSign, scaled-sign}
@@ -19,7 +19,6 @@ use Rattle.rounding.proofs.Terms.{finerBy}
 use Rattle.rounding.specs.Packed.{packedSize, packedUnit}
 use Rattle.quire_words.specs.Words.{wide}
 use Rattle.exact_terms.proofs.Wide.{wide-rounds, Leads}
-use Rattle.quire_words.proofs.Places.{digit-le}
 use Rattle.quire_totals.proofs.round_size.Statement.{statement}
 use Rattle.quire_totals.proofs.round_size.Tie as tie
 
@@ -43,7 +42,7 @@ cast-pack : tie.Need-cast-pack
 cast-pack c = search needs
 
 add-pack-2 : tie.Need-add-pack-2
-add-pack-2 c = record { fits = omega (arith, digit-le (c .before .before .before .before .first-digits .result .more)) }
+add-pack-2 c = record { fits = omega (arith, digit-lt (c .before .before .before .before .first-digits .result .more)) }
 
 pack-requires : tie.Need-pack-requires
 pack-requires c κs = search needs

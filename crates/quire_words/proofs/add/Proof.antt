@@ -6,8 +6,9 @@ use native.Mathlib.Omega.{arith}
 use borrow.Author.Needs.{needs}
 use lib.ListN.{length, getD, drop}
 use mir.Val.{boolByte}
+use Rattle.posit.proofs.Arith.{digit-lt}
 use Rattle.quire_words.specs.Words.{wide}
-use Rattle.quire_words.proofs.Places.{number-none, digit-le}
+use Rattle.quire_words.proofs.Places.{number-none}
 use Rattle.quire_words.proofs.Carry.{Carried, start, turn, sum-grows, wrapped}
 use Rattle.quire_words.proofs.add.Statement.{statement}
 use Rattle.quire_words.proofs.add.Tie as tie
@@ -25,7 +26,7 @@ loop-holds : tie.Need-loop-holds Inv-loop μ-loop
 loop-holds c =
     let ha : length (c .args .t1) ≡ 8 = search needs in
     let hb : length (c .args .t2) ≡ 8 = search needs in
-    (rw (number-none (2 ^ 64) 8 (c .args .t1) (le-of-eq ha), number-none (2 ^ 64) 8 (c .args .t2) (le-of-eq hb), zero-add (boolByte (c .args .carry))) (start (2 ^ 64) 8 (boolByte (c .args .carry)) _ refl), digit-le (c .args .carry))
+    (rw (number-none (2 ^ 64) 8 (c .args .t1) (le-of-eq ha), number-none (2 ^ 64) 8 (c .args .t2) (le-of-eq hb), zero-add (boolByte (c .args .carry))) (start (2 ^ 64) 8 (boolByte (c .args .carry)) _ refl), omega (arith, digit-lt (c .args .carry)))
 
 sub-i : tie.Need-sub-i Inv-loop μ-loop
 sub-i c = search needs

@@ -6,9 +6,10 @@ use native.Mathlib.Omega.{arith}
 use lib.Dec.{ltb}
 use lib.Pow.{pow-pos, pow-mono}
 use mir.Val.{boolByte}
+use Rattle.posit.proofs.Arith.{digit-lt}
 use Rattle.posit.proofs.LongPattern.{halfEven}
 use Rattle.posit.proofs.Packing.{fromDigits}
-use Rattle.rounding.proofs.Machine.{one-shifted, digit-lt}
+use Rattle.rounding.proofs.Machine.{one-shifted}
 use Rattle.rounding.proofs.Packed.{behind-lt, within}
 use borrow.Author.Needs.{needs}
 use Rattle.rounding.proofs.from_digits.Statement.{statement}

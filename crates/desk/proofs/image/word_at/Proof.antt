@@ -4,7 +4,6 @@ use Prim.Native.Nat.{ℕ, _+_, _-_, _*_, _^_, _≤_, _<_}
 use native.Mathlib.Omega.{arith}
 use borrow.Author.Needs.{needs}
 use lib.Dec.{lit<}
-use lib.ListN.{getD}
 use Rattle.posit.proofs.Digits.{Prefix}
 use Rattle.desk.proofs.Summed.{byte-more, byte-start, byte-fits, word-fits}
 use Rattle.desk.proofs.image.word_at.Statement.{statement}

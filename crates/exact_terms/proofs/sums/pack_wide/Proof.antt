@@ -1,18 +1,16 @@
 -- `pack_wide` meets its contract: its leading zeros tell how far the number is moved up (`normalised`), and `wide-rounds` what is then rounded.
 use mathlib.Core.Path.{_≡_, sym, ap, ap₂, _∙_}
-use Prim.Native.Nat.{ℕ, suc, _+_, _-_, _*_, _/_, _%_, _^_, _≤_, _<_}
-use native.Mathlib.Nat.{mod-eq-of-lt, mul-le-mul-right, mul-lt-mul-of-pos-right}
+use Prim.Native.Nat.{ℕ, _+_, _-_, _*_, _/_, _%_, _^_}
+use native.Mathlib.Nat.{mod-eq-of-lt}
 use native.Mathlib.Omega.{arith}
 use borrow.Author.Needs.{needs}
 use lib.Count.{leadingZeros}
 use lib.Dec.{ltb}
-use lib.Pow.{pow-pos}
 use mir.Val.{boolByte}
 use Rattle.posit.specs.Exact.{whole}
 use Rattle.posit.specs.Rounding.{round, signed}
-use Rattle.posit.proofs.Arith.{pow-sum}
+use Rattle.posit.proofs.Arith.{digit-lt}
 use Rattle.rounding.specs.Packed.{packedSize, packedUnit}
-use Rattle.rounding.proofs.Machine.{digit-lt}
 use Rattle.exact_terms.proofs.Wide.{normalised, wide-rounds}
 use Rattle.exact_terms.proofs.sums.pack_wide.Statement.{statement}
 use Rattle.exact_terms.proofs.sums.pack_wide.Tie as tie
