@@ -2,7 +2,7 @@
 -- the accumulator. An operand's amount leaves no remainder, since the value is a whole number of the accumulator's units (`undivided`).
 use mathlib.Core.Path.{_≡_, refl, sym, ap, ap₂, _∙_}
 use mathlib.Core.Logic.{_≢_}
-use mathlib.Core.Bool.{Bool, true, false, cond, xor, true≢false}
+use mathlib.Core.Bool.{Bool, true, false, cond, xor, _||_, true≢false}
 use Prim.Native.Nat.{ℕ, zero, suc, _+_, _-_, _*_, _/_, _^_, _<_}
 use native.Mathlib.Nat.{mul-assoc, mul-pos, mul-div-cancel}
 use native.Mathlib.Decide.{ℕ-discrete}
