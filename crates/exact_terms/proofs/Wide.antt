@@ -91,7 +91,7 @@ module _ (n z c : ℕ) (top : 2 ^ 63 ≤ n * 2 ^ z) (word : n * 2 ^ z < 2 ^ 64) 
         ∙ ap (λ (g : ℕ). round 2 31 packedUnit (whole (packedSize (c + 1 - z) g (ltb 0 (n * 2 ^ z % 4 + boolByte s))))) (mul-one (n * 2 ^ z / 4))
 
 -- The first 64 digits d of x, a number of the accumulator's units: x counts d units of 2 ^ u in the unit of `pack`, and there is more where `more` says so.
-pub record Leads (x u d : ℕ) (more : Bool) : Type 0 where
+pub record FirstDigits (x u d : ℕ) (more : Bool) : Type 0 where
   pub top : 2 ^ 63 ≤ d
   pub word : d < 2 ^ 64
   pub counts : Counts (whole (x * 2 ^ finerBy)) d (2 ^ u) more

@@ -8,23 +8,23 @@ use lib.Dec.{T as IsTrue, T-not, eqb, eqb-refl}
 use denote.Triple.Entry.{Args, Res}
 use denote.Triple.Clauses.{Ended, Lasts, atExit}
 use Rattle.one_answer.specs.Fixes.{Lifetimes, Before, After, Fixes}
-use Rattle.one_answer.specs.Engines.{Look, Number, NoConstant, NotAlways, Never}
+use Rattle.one_answer.specs.Engines.{Look, Expected, NoConstant, NotAlways, Never}
 
 differ : {m n : ℕ} → IsTrue (not (eqb m n)) → m ≡ n → ⊥
 differ {m} {n} d e = T-not (eqb m n) d (subst (λ (k : ℕ). IsTrue (eqb m k)) e (eqb-refl m))
 
 -- the number that a contract wants to be seen
-abbrev Wants : (T : Ended) → Look T → After T → Number T → Type 0
+abbrev Wants : (T : Ended) → Look T → After T → Expected T → Type 0
 Wants T look Post F = (κs : Lifetimes T) (a : Args (T .signature) κs) (x : Res (T .signature) κs) (u : Lasts T κs a) → Post κs a x (atExit T κs a u) → look κs a x u ≡ F κs a
 
-module _ {T : Ended} {Pre : Before T} {Post : After T} {of : Fixes T Pre Post} {look : Look T} (F : Number T) (wants : Wants T look Post F) (κs : Lifetimes T) where
+module _ {T : Ended} {Pre : Before T} {Post : After T} {of : Fixes T Pre Post} {look : Look T} (F : Expected T) (wants : Wants T look Post F) (κs : Lifetimes T) where
   pub constant-fails : (a b : Args (T .signature) κs) → Pre κs a → Pre κs b → IsTrue (not (eqb (F κs a) (F κs b))) → NoConstant of look
   constant-fails a b p q d = record {
     refuted = λ e m c. differ d (sym (wants κs a (e κs a .0) (e κs a .1) (m κs a p)) ∙ c κs a b ∙ wants κs b (e κs b .0) (e κs b .1) (m κs b q));
   }
 
-  pub always-fails : {kind : Before T} {it : Number T} (a : Args (T .signature) κs) → Pre κs a → kind κs a → IsTrue (not (eqb (F κs a) (it κs a))) → NotAlways of look kind it
+  pub always-fails : {kind : Before T} {it : Expected T} (a : Args (T .signature) κs) → Pre κs a → kind κs a → IsTrue (not (eqb (F κs a) (it κs a))) → NotAlways of look kind it
   always-fails a p k d = record { refuted = λ e m c. differ d (sym (wants κs a (e κs a .0) (e κs a .1) (m κs a p)) ∙ c κs a k) }
 
-  pub never : {it : Number T} (a : Args (T .signature) κs) → Pre κs a → IsTrue (not (eqb (F κs a) (it κs a))) → Never of look it
+  pub never : {it : Expected T} (a : Args (T .signature) κs) → Pre κs a → IsTrue (not (eqb (F κs a) (it κs a))) → Never of look it
   never a p d = always-fails a p tt d

@@ -21,17 +21,17 @@ module _ (T : Ended) where
   Look = (κs : Lifetimes T) (a : Args (T .signature) κs) → Res (T .signature) κs → Lasts T κs a → ℕ
 
   -- a number for each argument
-  abbrev pub Number : Type 0
-  Number = (κs : Lifetimes T) → Args (T .signature) κs → ℕ
+  abbrev pub Expected : Type 0
+  Expected = (κs : Lifetimes T) → Args (T .signature) κs → ℕ
 
-  abbrev pub seen : Look → Engine → Number
+  abbrev pub seen : Look → Engine → Expected
   seen look e κs a = look κs a (e κs a .0) (e κs a .1)
 
 pub record NoConstant {T : Ended} {Pre : Before T} {Post : After T} (of : Fixes T Pre Post) (look : Look T) : Type 0 where
   pub refuted : (e : Engine T) → Meets T Pre Post e → ((κs : Lifetimes T) (a b : Args (T .signature) κs) → seen T look e κs a ≡ seen T look e κs b) → ⊥
 
-pub record NotAlways {T : Ended} {Pre : Before T} {Post : After T} (of : Fixes T Pre Post) (look : Look T) (kind : Before T) (it : Number T) : Type 0 where
+pub record NotAlways {T : Ended} {Pre : Before T} {Post : After T} (of : Fixes T Pre Post) (look : Look T) (kind : Before T) (it : Expected T) : Type 0 where
   pub refuted : (e : Engine T) → Meets T Pre Post e → ((κs : Lifetimes T) (a : Args (T .signature) κs) → kind κs a → seen T look e κs a ≡ it κs a) → ⊥
 
-abbrev pub Never : {T : Ended} {Pre : Before T} {Post : After T} → Fixes T Pre Post → Look T → Number T → Type 0
+abbrev pub Never : {T : Ended} {Pre : Before T} {Post : After T} → Fixes T Pre Post → Look T → Expected T → Type 0
 Never of look it = NotAlways of look (λ κs a. Unit {0}) it

@@ -20,9 +20,8 @@ use Rattle.quire_steps.proofs.from_posit.Reads as from-posit
 use Rattle.quire_totals.proofs.to_posit.Reads as to-posit
 use Rattle.promises.specs.History.{Step, totalOf, WithoutNar, Stays}
 use Rattle.promises.specs.Run.{Image}
-use Rattle.promises.proofs.Tracked.{back, image-back, after, after-held}
+use Rattle.promises.proofs.Tracked.{back, image-back, after, after-held, clear-held, shown}
 use Rattle.promises.proofs.Totals.{posit-total, posit-at-most, exact-after}
-use Rattle.promises.proofs.Demand3.{shown, clear-held}
 
 -- ---- "the rounding that the standard gives"
 

@@ -22,22 +22,11 @@ use Rattle.posit.proofs.Digits.{number-lt}
 use Rattle.posit.proofs.Signs.{withSign, sum-same}
 use Rattle.posit.proofs.State.{Held, state-held, read-image}
 use Rattle.quire_steps.proofs.Range.{size-of}
-use Rattle.promises.specs.History.{Step, addPosit, takePosit, addProduct, takeProduct, negate, throughImage, moves, totalFrom, totalOf, Numbers, WithoutNar, Within, StaysBelow, StaysFrom, Stays}
-use Rattle.promises.specs.Run.{Runs, ended, next, Image}
+use Rattle.promises.specs.History.{plain, Step, addPosit, takePosit, addProduct, takeProduct, negate, throughImage, moves, totalFrom, totalOf, Numbers, WithoutNar, Within, StaysBelow, StaysFrom, Stays}
+use Rattle.promises.specs.Run.{Runs, ended, next, Image, Reached}
 use Rattle.promises.specs.Outside.{NarIn, Leaves, narOperand, outOfRange, later}
-use Rattle.promises.proofs.Tracked.{stepped, stepped-held, after, after-held, back, image-back, runs-state}
+use Rattle.promises.proofs.Tracked.{stepped, stepped-held, after, after-held, back, image-back, clear-held, shown}
 use Rattle.promises.proofs.Totals.{posit-total, product-total, outside, abs-negated, exact-after, exact-step, stays-short}
-
--- ---- what was run has the image of the state that the definitions lead to
-
-pub clear-held : Held 512 clear
-clear-held = lit< tt
-
-pub shown : (h : List Step) (bs : List ℕ) → Image h bs → bs ≡ image 512 (after h clear)
-shown h bs i =
-    i .shows
-    ∙ ap (λ (ws : List ℕ). image 512 (fromWords 512 ws)) (runs-state h clear (i .start) (i .end) clear-held (i .from-clear) (i .runs))
-    ∙ ap (image 512) (back (after h clear) (after-held h clear clear-held))
 
 total-one : {x y : ℤ} → total x ≡ total y → x ≡ y
 total-one e = ap value-of e
@@ -65,16 +54,6 @@ pub short-history-stays : (h : List Step) → WithoutNar h → length h ≤ 2 ^ 
 short-history-stays h n l = stays-short h (pos 0) 0 n (rw zero-mul (lit≤ tt)) (omega arith)
 
 -- ---- "writing and reading the image between steps changes nothing"
-
--- the history without its turns through the image
-abbrev pub plain : List Step → List Step
-plain [] = []
-plain (addPosit p ∷ h) = addPosit p ∷ plain h
-plain (takePosit p ∷ h) = takePosit p ∷ plain h
-plain (addProduct a b ∷ h) = addProduct a b ∷ plain h
-plain (takeProduct a b ∷ h) = takeProduct a b ∷ plain h
-plain (negate ∷ h) = negate ∷ plain h
-plain (throughImage ∷ h) = plain h
 
 same-state : (h : List Step) (q : State) → after h q ≡ after (plain h) q
 unfolding stepped
@@ -164,13 +143,6 @@ image-held bs e b = state-held 512 (lit< tt) (number 256 bs) (rw e at (number-lt
 
 all-read : (bs : List ℕ) → length bs ≡ 64 → InBase 256 bs → image 512 (fromImage 512 bs) ≡ bs
 all-read bs e b = read-image 512 (lit< tt) refl bs e b
-
--- a history that keeps both premises and whose image is bs
-pub record Reached (bs : List ℕ) : Type 0 where
-  pub history : List Step
-  pub without-nar : WithoutNar history
-  pub stays : Stays history
-  pub shows : Image history bs
 
 reached-total : (s : Bool) (n : ℕ) (bs : List ℕ) → n < 2 ^ 511 → image 512 (total (withSign s n)) ≡ bs → Reached bs
 reached-total s n bs l e =

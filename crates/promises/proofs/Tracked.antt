@@ -1,18 +1,19 @@
--- The words that a history leads to are those of the state that the definitions lead to (`runs-state`): each step's contract says so of that step.
+-- The words that a history leads to are those of the state that the definitions lead to (`runs-state`), and so is its image (`shown`): each step's contract says so of
+-- that step.
 use mathlib.Core.Path.{_≡_, refl, sym, ap, _∙_}
 use mathlib.Core.List.{List, [], _∷_}
 use Prim.Native.Nat.{ℕ, zero, suc}
 use lib.Dec.{lit<}
 use lib.IntN.{pos, negsuc}
 use lib.ListN.{length}
-use Rattle.posit.specs.Accumulator.{State, notReal, total, ofPosit, ofProduct, plus, minus, negated, words, fromWords, image, fromImage}
+use Rattle.posit.specs.Accumulator.{State, notReal, total, clear, ofPosit, ofProduct, plus, minus, negated, words, fromWords, image, fromImage}
 use Rattle.desk.specs.Desk.{readInto}
 use Rattle.posit.proofs.State.{Held, words-read, image-read}
 use Rattle.quire_steps.proofs.Kept.{plus-held}
 use Rattle.desk.proofs.Spelt.{image-long}
 use Rattle.desk.proofs.Refused.{right-length}
 use Rattle.promises.specs.History.{Step, addPosit, takePosit, addProduct, takeProduct, negate, throughImage}
-use Rattle.promises.specs.Run.{Leads, ReadOf, Runs, ended, next}
+use Rattle.promises.specs.Run.{Leads, ReadOf, Runs, ended, next, Image}
 
 -- the state after a step, and after a history
 unfoldable pub stepped : Step → State → State
@@ -78,3 +79,14 @@ leads-state throughImage S q r h e l = read-back S (l .0) r h (l .1 .0 ∙ ap (i
 pub runs-state : (h : List Step) (S : State) (q z : List ℕ) → Held 512 S → q ≡ words 512 S → Runs q h z → z ≡ words 512 (after h S)
 runs-state [] S q z k e (ended _) = e
 runs-state (s ∷ h) S q z k e (next _ r _ _ _ l run) = runs-state h (stepped s S) r z (stepped-held s S k) (leads-state s S q r k e l) run
+
+-- ---- what was run has the image of the state that the definitions lead to
+
+pub clear-held : Held 512 clear
+clear-held = lit< tt
+
+pub shown : (h : List Step) (bs : List ℕ) → Image h bs → bs ≡ image 512 (after h clear)
+shown h bs i =
+    i .shows
+    ∙ ap (λ (ws : List ℕ). image 512 (fromWords 512 ws)) (runs-state h clear (i .start) (i .end) clear-held (i .from-clear) (i .runs))
+    ∙ ap (image 512) (back (after h clear) (after-held h clear clear-held))

@@ -64,3 +64,13 @@ StaysFrom t h = StaysBelow (2 ^ 511) t h
 
 abbrev pub Stays : List Step → Type 0
 Stays h = StaysFrom (pos 0) h
+
+-- the history without its turns through the image
+abbrev pub plain : List Step → List Step
+plain [] = []
+plain (addPosit p ∷ h) = addPosit p ∷ plain h
+plain (takePosit p ∷ h) = takePosit p ∷ plain h
+plain (addProduct a b ∷ h) = addProduct a b ∷ plain h
+plain (takeProduct a b ∷ h) = takeProduct a b ∷ plain h
+plain (negate ∷ h) = negate ∷ plain h
+plain (throughImage ∷ h) = plain h

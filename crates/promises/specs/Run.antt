@@ -15,7 +15,7 @@ use denote.Ref.{RefT}
 use Rattle.desk.specs.declared.image.ImageRead.{ImageRead}
 use Rattle.desk.proofs.image.image_of.Reads as image-of
 use Rattle.desk.proofs.image.read_image.Reads as read-image
-use Rattle.promises.specs.History.{Step, addPosit, takePosit, addProduct, takeProduct, negate, throughImage}
+use Rattle.promises.specs.History.{Step, addPosit, takePosit, addProduct, takeProduct, negate, throughImage, WithoutNar, Stays}
 
 abbrev posit : ℕ → P32E2
 posit p = record { 0 = p }
@@ -59,3 +59,10 @@ pub record Image (h : List Step) (bs : List ℕ) : Type 0 where
   pub from-clear : Cleared start
   pub runs : Runs start h end
   pub shows : ImageOf end bs
+
+-- a history that keeps both premises and whose image is bs
+pub record Reached (bs : List ℕ) : Type 0 where
+  pub history : List Step
+  pub without-nar : WithoutNar history
+  pub stays : Stays history
+  pub shows : Image history bs

@@ -37,16 +37,20 @@ same-sign true false (suc m) n h e = absurd (unlike (suc m * n) (mul-pos {m = su
 same-sign false true zero n h e = refl
 same-sign false true (suc m) n h e = absurd (unlike (suc m * n) (mul-pos {m = suc m} (omega arith) h) (sym e))
 
-undivided : (x : ℤ) (s : Bool) (n : ℕ) → x *ℤ pos (2 ^ 64) ≡ withSign s n → withSign s (n / 2 ^ 64) ≡ x
-undivided x s n = by-sign (λ x. x *ℤ pos (2 ^ 64) ≡ withSign s n → withSign s (n / 2 ^ 64) ≡ x) go x
-  where
-    go : (t : Bool) (m : ℕ) → withSign t m *ℤ pos (2 ^ 64) ≡ withSign s n → withSign s (n / 2 ^ 64) ≡ withSign t m
-    go t m e =
-        let told = sym (scaled-sign t m (2 ^ 64)) ∙ e in
-        let whole : n ≡ m * 2 ^ 64 = sym (sym (size-of t (m * 2 ^ 64)) ∙ ap natAbs told ∙ size-of s n) in
-        rw (whole, mul-div-cancel m (pow-pos 64)) (same-sign s t m (2 ^ 64) (pow-pos 64) (rw whole at told))
+-- what an operand's unit goes into the accumulator's
+abbrev word : ℕ
+word = 2 ^ (operandUnit - unit 2 31)
 
-amount-is : (x : ℤ) (s : Bool) (g c i : ℕ) → x *ℤ pos (2 ^ 64) ≡ withSign s (g * 2 ^ c * 2 ^ i) → withSign s (amount (c + i) g) ≡ x
+undivided : (x : ℤ) (s : Bool) (n : ℕ) → x *ℤ pos (word) ≡ withSign s n → withSign s (n / word) ≡ x
+undivided x s n = by-sign (λ x. x *ℤ pos (word) ≡ withSign s n → withSign s (n / word) ≡ x) go x
+  where
+    go : (t : Bool) (m : ℕ) → withSign t m *ℤ pos (word) ≡ withSign s n → withSign s (n / word) ≡ withSign t m
+    go t m e =
+        let told = sym (scaled-sign t m (word)) ∙ e in
+        let whole : n ≡ m * word = sym (sym (size-of t (m * word)) ∙ ap natAbs told ∙ size-of s n) in
+        rw (whole, mul-div-cancel m (pow-pos (operandUnit - unit 2 31))) (same-sign s t m (word) (pow-pos (operandUnit - unit 2 31)) (rw whole at told))
+
+amount-is : (x : ℤ) (s : Bool) (g c i : ℕ) → x *ℤ pos (word) ≡ withSign s (g * 2 ^ c * 2 ^ i) → withSign s (amount (c + i) g) ≡ x
 amount-is x s g c i e = undivided x s (g * 2 ^ (c + i)) (e ∙ ap (withSign s) (mul-assoc g (2 ^ c) (2 ^ i) ∙ ap (λ (n : ℕ). g * n) (sym (pow-add 2 c i))))
 
 -- ---- operands

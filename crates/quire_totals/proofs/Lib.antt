@@ -1,3 +1,3 @@
 -- The laws that the functions' proofs use.
-pub mod Leads
-pub mod Parts
+pub mod FirstDigits
+pub mod InParts

@@ -11,7 +11,7 @@ ghost use Rattle.posit.specs.Accumulator.{toPosit, partsOf, fromWords};
 ghost use Rattle.posit.proofs.Signs.{withSign};
 ghost use Rattle.posit.specs.Pattern.{unit};
 ghost use Rattle.quire_words.specs.Words.{wide};
-ghost use Rattle.exact_terms.proofs.Wide.{Leads};
+ghost use Rattle.exact_terms.proofs.Wide.{FirstDigits};
 use p32e2::P32E2;
 use quire_steps::sub_posit;
 use quire_words::NAR_WORD;
@@ -99,7 +99,7 @@ struct Leading {
 // Word 0 stands 448 digits above the accumulator's unit, and that one 846 above the unit of `pack`.
 fn first_digits(w: [u64; 8]) -> Leading
     requires { ⌜ 0 < wide w ⌝ }
-    ensures { λ r. ⌜ Leads (wide w) (r .unit) (r .digits) (r .more) ⌝ }
+    ensures { λ r. ⌜ FirstDigits (wide w) (r .unit) (r .digits) (r .more) ⌝ }
 {
     let i = first_word(w);
     let z = u64::leading_zeros(w[i]);

@@ -8,7 +8,7 @@ use borrow.Kind.Array.{rArr, eInt, eInt-laws}
 use mir.Syntax.{w64}
 use Rattle.exact_terms.proofs.Wide.{normalised}
 use Rattle.quire_words.proofs.Places.{below-at, words-typed}
-use Rattle.quire_totals.proofs.Leads.{digits-fit, digits-of}
+use Rattle.quire_totals.proofs.FirstDigits.{digits-fit, digits-of}
 use borrow.Author.Needs.{needs}
 use Rattle.quire_totals.proofs.first_digits.Statement.{statement}
 use Rattle.quire_totals.proofs.first_digits.Tie as tie

@@ -18,13 +18,13 @@ use Rattle.posit.specs.Pattern.{unit}
 use Rattle.rounding.proofs.Terms.{finerBy}
 use Rattle.rounding.specs.Packed.{packedSize, packedUnit}
 use Rattle.quire_words.specs.Words.{wide}
-use Rattle.exact_terms.proofs.Wide.{wide-rounds, Leads}
+use Rattle.exact_terms.proofs.Wide.{wide-rounds, FirstDigits}
 use Rattle.quire_totals.proofs.round_size.Statement.{statement}
 use Rattle.quire_totals.proofs.round_size.Tie as tie
 
-leads-rounded : (s : Bool) (x u d : ℕ) (more : Bool) → 0 < x → Leads x u d more
+digits-rounded : (s : Bool) (x u d : ℕ) (more : Bool) → 0 < x → FirstDigits x u d more
     → rounded 2 31 (unit 2 31) (withSign s x) ≡ signed 31 s (round 2 31 packedUnit (whole (packedSize (u + 1) (d / 4) (ltb 0 (d % 4 + boolByte more)))))
-leads-rounded s x u d more p l =
+digits-rounded s x u d more p l =
     let sound = mul-pos p (pow-pos finerBy) in
     rounded-finer 2 31 (unit 2 31) finerBy (lit≤ tt) (withSign s x)
     ∙ ap (rounded 2 31 packedUnit) (scaled-sign s x (2 ^ finerBy))
@@ -52,7 +52,7 @@ returns c =
     let k = c .before .before .before .before .before in
     let a = k .before .args in
     let x = k .first-digits .result in
-    c .pack .ensures ∙ sym (leads-rounded (a .negative) (wide (a .w)) (x .unit) (x .digits) (x .more) (k .before .pre) (k .first-digits .ensures))
+    c .pack .ensures ∙ sym (digits-rounded (a .negative) (wide (a .w)) (x .unit) (x .digits) (x .more) (k .before .pre) (k .first-digits .ensures))
 
 pub round-size-spec : {M : Type 1} → statement M
 round-size-spec =

@@ -3,7 +3,7 @@ use mathlib.Core.Path.{ap, _∙_}
 use mathlib.Core.List.{List, _∷_}
 use Prim.Native.Nat.{ℕ}
 use Rattle.posit.specs.Accumulator.{fromWords}
-use Rattle.quire_totals.proofs.Parts.{parts-next}
+use Rattle.quire_totals.proofs.InParts.{parts-next}
 use Rattle.quire_totals.proofs.three_posits.Statement.{statement}
 use Rattle.quire_totals.proofs.three_posits.Tie as tie
 

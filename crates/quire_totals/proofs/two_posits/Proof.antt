@@ -4,7 +4,7 @@ use mathlib.Core.List.{List, _∷_}
 use Prim.Native.Nat.{ℕ}
 use borrow.Author.Needs.{needs}
 use Rattle.posit.specs.Accumulator.{fromWords}
-use Rattle.quire_totals.proofs.Parts.{last-part, parts-next}
+use Rattle.quire_totals.proofs.InParts.{last-part, parts-next}
 use Rattle.quire_totals.proofs.two_posits.Statement.{statement}
 use Rattle.quire_totals.proofs.two_posits.Tie as tie
 

@@ -17,7 +17,7 @@ use Rattle.rounding.proofs.Terms.{finerBy}
 use Rattle.quire_steps.proofs.Moved.{moved-down}
 use Rattle.quire_words.proofs.Places.{number-none, number-drop, number-drop-lt, below-at}
 use Rattle.quire_words.specs.Words.{wide}
-use Rattle.exact_terms.proofs.Wide.{Leads}
+use Rattle.exact_terms.proofs.Wide.{FirstDigits}
 
 -- X moved up by z digits is d units of Q and something less than Q besides, and Q is n words
 module _ (X z n d low : ℕ) (moved : X * 2 ^ z ≡ d * 2 ^ (64 * n) + low) (less : low < 2 ^ (64 * n)) (hz : z ≤ 63) (hn : n ≤ 7) where
@@ -38,7 +38,7 @@ module _ (X z n d low : ℕ) (moved : X * 2 ^ z ≡ d * 2 ^ (64 * n) + low) (les
           let none : low ≡ 0 = omega arith in
           rw none (sym (le-ltb (d * (2 ^ (64 * n) * 2 ^ (finerBy - z))) ((d * 2 ^ (64 * n) + 0) * 2 ^ (finerBy - z)) (omega arith)))
 
-  pub leads : 2 ^ 63 ≤ d → d < 2 ^ 64 → (more : Bool) → more ≡ ltb 0 low → Leads X (finerBy + 64 * n - z) d more
+  pub leads : 2 ^ 63 ≤ d → d < 2 ^ 64 → (more : Bool) → more ≡ ltb 0 low → FirstDigits X (finerBy + 64 * n - z) d more
   leads top word more e =
       record {
         top = top;
@@ -99,7 +99,7 @@ module _ (h y z : ℕ) (hy : y < 2 ^ 64) (hz : z < 64) (top : 2 ^ 63 ≤ h * 2 ^
 
   -- n words behind these two
   two-word-digits : (n rest : ℕ) → n ≤ 6 → rest < (2 ^ 64) ^ n
-      → Leads (h * (2 ^ 64) ^ suc n + (y * (2 ^ 64) ^ n + rest)) (finerBy + 64 * suc n - z) (h * 2 ^ z % 2 ^ 64 + y / 2 / 2 ^ (63 - z)) (ltb 0 (y * 2 ^ z % 2 ^ 64) || ltb 0 rest)
+      → FirstDigits (h * (2 ^ 64) ^ suc n + (y * (2 ^ 64) ^ n + rest)) (finerBy + 64 * suc n - z) (h * 2 ^ z % 2 ^ 64 + y / 2 / 2 ^ (63 - z)) (ltb 0 (y * 2 ^ z % 2 ^ 64) || ltb 0 rest)
   two-word-digits n rest hn hr =
       let K = 2 ^ (64 - z) in
       let Z = 2 ^ z in
@@ -121,21 +121,21 @@ module _ (h y z : ℕ) (hy : y < 2 ^ 64) (hz : z < 64) (top : 2 ^ 63 ≤ h * 2 ^
       (anything K Z P h y rest short hy′ hr pz pk))
 
 -- the last word, with none behind it
-one-word-digits : (h z : ℕ) → z < 64 → 2 ^ 63 ≤ h * 2 ^ z → h * 2 ^ z < 2 ^ 64 → Leads h (finerBy - z) (h * 2 ^ z % 2 ^ 64 + 0 / 2 / 2 ^ (63 - z)) (ltb 0 (0 * 2 ^ z % 2 ^ 64) || ltb 0 0)
+one-word-digits : (h z : ℕ) → z < 64 → 2 ^ 63 ≤ h * 2 ^ z → h * 2 ^ z < 2 ^ 64 → FirstDigits h (finerBy - z) (h * 2 ^ z % 2 ^ 64 + 0 / 2 / 2 ^ (63 - z)) (ltb 0 (0 * 2 ^ z % 2 ^ 64) || ltb 0 0)
 one-word-digits h z hz top word =
     rw (mod-eq-of-lt word, zero-div (2 ^ (63 - z)), zero-mul (2 ^ z), add-zero (h * 2 ^ z))
     (leads h z 0 (h * 2 ^ z) 0 (omega arith) (lit< tt) (omega arith) (lit≤ tt) top word false refl)
 
 -- the words ws, of which the one at i is the first that is not 0
 pub digits-of : (ws : List ℕ) → length ws ≡ 8 → InBase (2 ^ 64) ws → (i z : ℕ) → i < 8 → z < 64 → wide ws ≡ wide (drop i ws) → 2 ^ 63 ≤ getD ws i 0 * 2 ^ z → getD ws i 0 * 2 ^ z < 2 ^ 64
-    → Leads (wide ws) ((finerBy + 448) - 64 * i - z) (getD ws i 0 * 2 ^ z % 2 ^ 64 + getD ws (i + 1) 0 / 2 / 2 ^ (63 - z)) (ltb 0 (getD ws (i + 1) 0 * 2 ^ z % 2 ^ 64) || ltb 0 (wide (drop (i + 2) ws)))
+    → FirstDigits (wide ws) ((finerBy + 448) - 64 * i - z) (getD ws i 0 * 2 ^ z % 2 ^ 64 + getD ws (i + 1) 0 / 2 / 2 ^ (63 - z)) (ltb 0 (getD ws (i + 1) 0 * 2 ^ z % 2 ^ 64) || ltb 0 (wide (drop (i + 2) ws)))
 digits-of ws e b i z hi hz all top word = go (decLt i 7)
   where
     first : wide (drop i ws) ≡ getD ws i 0 * (2 ^ 64) ^ (8 - suc i) + wide (drop (suc i) ws)
     first = rw e at (number-drop (2 ^ 64) ws i (omega arith))
 
     go : Dec (i < 7)
-        → Leads (wide ws) ((finerBy + 448) - 64 * i - z) (getD ws i 0 * 2 ^ z % 2 ^ 64 + getD ws (i + 1) 0 / 2 / 2 ^ (63 - z)) (ltb 0 (getD ws (i + 1) 0 * 2 ^ z % 2 ^ 64) || ltb 0 (wide (drop (i + 2) ws)))
+        → FirstDigits (wide ws) ((finerBy + 448) - 64 * i - z) (getD ws i 0 * 2 ^ z % 2 ^ 64 + getD ws (i + 1) 0 / 2 / 2 ^ (63 - z)) (ltb 0 (getD ws (i + 1) 0 * 2 ^ z % 2 ^ 64) || ltb 0 (wide (drop (i + 2) ws)))
     go (yes l) =
         let second : wide (drop (suc i) ws) ≡ getD ws (suc i) 0 * (2 ^ 64) ^ (8 - suc (suc i)) + wide (drop (suc (suc i)) ws) = rw e at (number-drop (2 ^ 64) ws (suc i) (omega arith)) in
         let n = 8 - suc (suc i) in
