@@ -1,4 +1,4 @@
--- Eight words as one number, for the contracts of the inner functions.
+-- Eight words as one number.
 use mathlib.Core.List.{List}
 use Prim.Native.Nat.{ℕ, _^_}
 use Rattle.posit.specs.Digits.{number}
