@@ -17,7 +17,7 @@ use Rattle.posit.specs.Digits.{reading, complement}
 use Rattle.posit.specs.Accumulator.{State, notReal, total, kept, plus, negated, minus, bitsOf, words, fromWords}
 use Rattle.posit.proofs.Signs.{withSign, negated-sign}
 use Rattle.quire_words.specs.Words.{wide}
-use Rattle.quire_words.proofs.Operand.{turned, escaped, moved}
+use Rattle.quire_words.proofs.Operand.{amount, brought, moved, turned, escaped}
 use Rattle.quire_steps.proofs.Range.{wrap, keptAs, size-of, negated-as, steps}
 use Rattle.quire_steps.proofs.Words.{read-nar, read-real}
 
@@ -71,12 +71,16 @@ module _ (s : Bool) (ws : List ℕ) (m z : ℕ) (ne : wide ws ≢ 2 ^ 511) (shor
 -- ---- the direction
 
 -- to take an operand is to add it with the other sign
-pub directed : (added s : Bool) (q : State) (m : ℕ) → plus 512 q (total (withSign (Bool·beq s added) m)) ≡ moved added q (total (withSign s m))
+directed : (added s : Bool) (q : State) (m : ℕ) → plus 512 q (total (withSign (Bool·beq s added) m)) ≡ moved added q (total (withSign s m))
 unfolding minus negated
 directed true true q m = refl
 directed true false q m = refl
 directed false true q m = ap (λ t. plus 512 q (total t)) (sym (negated-sign true m))
 directed false false q m = ap (λ t. plus 512 q (total t)) (sym (negated-sign false m))
+
+pub directed-brought : (added n s : Bool) (q : State) (shift g : ℕ) → plus 512 q (brought n (Bool·beq s added) shift g) ≡ moved added q (brought n s shift g)
+directed-brought added true s q shift g = moved-by-nar true q ∙ sym (moved-by-nar added q)
+directed-brought added false s q shift g = directed added s q (amount shift g)
 
 -- words that were stepped by an operand x, which stands for y
 pub moved-by : {x y : State} (added : Bool) (q : State) {ws : List ℕ} → ws ≡ words 512 (moved added q x) → x ≡ y → ws ≡ words 512 (moved added q y)

@@ -2,7 +2,7 @@
 mod operands; // operands.rt: what a step brings
 
 ghost use mathlib.Core.Path.{_≡_};
-ghost use mathlib.Core.Bool.{cond};
+ghost use mathlib.Core.Bool.{cond, Bool·beq};
 ghost use Prim.Native.Nat.{_-_, _^_, _<_};
 ghost use lib.Dec.{leb};
 ghost use Rattle.posit.specs.Accumulator.{notReal, clear, isNotReal, isClear, ofPosit, ofProduct, plus, minus, negated, words, fromWords};
@@ -76,27 +76,46 @@ pub fn cleared() -> [u64; 8]
 pub fn from_posit(p: P32E2) -> [u64; 8]
     ensures { λ r. ⌜ r ≡ words 512 (ofPosit 2 31 (p .0)) ⌝ }
 {
-    step([0; 8], posit_of(p), true)
+    step([0; 8], posit_of(p))
 }
 
 // A product in one of the two directions: added, or taken where `added` is false.
 fn fdp(q: [u64; 8], a: P32E2, b: P32E2, added: bool) -> [u64; 8]
     ensures { λ r. ⌜ r ≡ words 512 (moved added (fromWords 512 q) (ofProduct 2 31 (a .0) (b .0))) ⌝ }
 {
-    step(q, product_of(a, b), added)
+    step_by(q, product_of(a, b), added)
 }
 
 // The same for one posit.
 fn fdp_one(q: [u64; 8], p: P32E2, added: bool) -> [u64; 8]
     ensures { λ r. ⌜ r ≡ words 512 (moved added (fromWords 512 q) (ofPosit 2 31 (p .0))) ⌝ }
 {
-    step(q, posit_of(p), added)
+    step_by(q, posit_of(p), added)
 }
 
 // To take an operand is to add it with the other sign.
-fn step(q: [u64; 8], x: Operand, added: bool) -> [u64; 8]
+fn step_by(q: [u64; 8], x: Operand, added: bool) -> [u64; 8]
     requires { ⌜ x .shift < 512 ⌝ }
     ensures { λ r. ⌜ r ≡ words 512 (moved added (fromWords 512 q) (brought (x .nar) (x .negative) (x .shift) (x .significand))) ⌝ }
+{
+    step(q, directed(x, added))
+}
+
+// A function of its own: with the sign settled before the step begins, the compiler keeps the words of a batch in registers.
+fn directed(x: Operand, added: bool) -> Operand
+    ensures { λ r. ⌜ (r .nar ≡ x .nar) × (r .negative ≡ Bool·beq (x .negative) added) × (r .shift ≡ x .shift) × (r .significand ≡ x .significand) ⌝ }
+{
+    Operand {
+        nar: x.nar,
+        negative: x.negative == added,
+        shift: x.shift,
+        significand: x.significand,
+    }
+}
+
+fn step(q: [u64; 8], x: Operand) -> [u64; 8]
+    requires { ⌜ x .shift < 512 ⌝ }
+    ensures { λ r. ⌜ r ≡ words 512 (plus 512 (fromWords 512 q) (brought (x .nar) (x .negative) (x .shift) (x .significand))) ⌝ }
 {
     if x.nar {
         return not_real();
@@ -104,11 +123,10 @@ fn step(q: [u64; 8], x: Operand, added: bool) -> [u64; 8]
     if is_alone(q, NAR_WORD) {
         return not_real();
     }
-    let negative = x.negative == added;
     judged(
         q,
-        negative,
-        add(q, placed(negative, x.shift, x.significand), negative),
+        x.negative,
+        add(q, placed(x.negative, x.shift, x.significand), x.negative),
     )
 }
 

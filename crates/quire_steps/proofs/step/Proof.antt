@@ -1,19 +1,18 @@
--- `step` meets its contract: NaR before or as operand stays NaR; else the words that were judged have the number of the new state (`stepped-bits`), the operand having
--- the sign that the direction gives it (`directed`).
+-- `step` meets its contract: NaR before or as operand stays NaR; else the words that were judged have the number of the new state (`stepped-bits`).
 use mathlib.Core.Path.{_≡_, sym, ap, _∙_}
-use mathlib.Core.Bool.{Bool·beq}
+use mathlib.Core.Bool.{true}
 use Prim.Native.Nat.{ℕ, _+_, _%_, _^_}
 use native.Mathlib.Omega.{arith}
 use borrow.Author.Needs.{needs}
 use borrow.Author.Tests.{eqb-true, eqb-false}
 use mir.Val.{boolByte}
-use Rattle.posit.specs.Accumulator.{notReal, total, bitsOf, words, fromWords}
+use Rattle.posit.specs.Accumulator.{notReal, total, plus, bitsOf, words, fromWords}
 use Rattle.posit.proofs.Signs.{withSign}
 use Rattle.quire_words.specs.Words.{wide}
-use Rattle.quire_words.proofs.Operand.{amount, brought, moved}
+use Rattle.quire_words.proofs.Operand.{amount, brought}
 use Rattle.quire_words.proofs.Places.{words-typed, wide-typed}
 use Rattle.quire_steps.proofs.Words.{read-nar, spelt}
-use Rattle.quire_steps.proofs.Stepped.{nar-moves, moved-by-nar, directed, amount-below, stepped-bits}
+use Rattle.quire_steps.proofs.Stepped.{nar-moves, moved-by-nar, amount-below, stepped-bits}
 use Rattle.quire_steps.proofs.step.Statement.{statement}
 use Rattle.quire_steps.proofs.step.Tie as tie
 
@@ -24,7 +23,7 @@ returns : tie.Need-returns
 returns c =
     let a = c .before .before .args in
     let nar : brought (a .x .nar) (a .x .negative) (a .x .shift) (a .x .significand) ≡ notReal = rw (c .before .if1 .taken) in
-    c .not-real .ensures ∙ ap (words 512) (sym (ap (moved (a .added) (fromWords 512 (a .q))) nar ∙ moved-by-nar (a .added) (fromWords 512 (a .q))))
+    c .not-real .ensures ∙ ap (words 512) (sym (ap (plus 512 (fromWords 512 (a .q))) nar ∙ moved-by-nar true (fromWords 512 (a .q))))
 
 is-alone-requires : tie.Need-is-alone-requires
 is-alone-requires c κs = search needs
@@ -37,7 +36,7 @@ returns-2 c =
     let at = c .before .before in
     let a = at .before .before .args in
     let nar = read-nar (a .q) (eqb-true (wide (a .q)) (2 ^ 511) (sym (at .is-alone .ensures) ∙ c .before .if2 .taken)) in
-    c .not-real2 .ensures ∙ ap (words 512) (sym (ap (λ q. moved (a .added) q (brought (a .x .nar) (a .x .negative) (a .x .shift) (a .x .significand))) nar ∙ nar-moves (a .added) (brought (a .x .nar) (a .x .negative) (a .x .shift) (a .x .significand))))
+    c .not-real2 .ensures ∙ ap (words 512) (sym (ap (λ q. plus 512 q (brought (a .x .nar) (a .x .negative) (a .x .shift) (a .x .significand))) nar ∙ nar-moves true (brought (a .x .nar) (a .x .negative) (a .x .shift) (a .x .significand))))
 
 placed-requires : tie.Need-placed-requires
 placed-requires c κs = search needs
@@ -50,11 +49,11 @@ judged-requires c κs = search needs
 
 returns-3 : tie.Need-returns-3
 returns-3 c =
-    let tested = c .before .before .before .before in
+    let tested = c .before .before .before in
     let k = tested .before .before .before in
     let q = k .args .q in
     let x = k .args .x in
-    let s = Bool·beq (x .negative) (k .args .added) in
+    let s = x .negative in
     let m = amount (x .shift) (x .significand) in
     let short = wide-typed q (k .good .0) in
     let r = words-typed 8 (c .judged .result) (c .judged .ok) in
@@ -64,7 +63,7 @@ returns-3 c =
     spelt _ (c .judged .result) (r .0) (r .1)
     (c .judged .ensures
     ∙ stepped-bits s q m _ ne short (amount-below (x .significand) (x .shift) (omega arith) (k .pre)) sum
-    ∙ ap (bitsOf 512) (directed (k .args .added) (x .negative) (fromWords 512 q) m ∙ ap (moved (k .args .added) (fromWords 512 q)) (sym real)))
+    ∙ ap (λ y. bitsOf 512 (plus 512 (fromWords 512 q) y)) (sym real))
 
 pub step-spec : {M : Type 1} → statement M
 step-spec =
