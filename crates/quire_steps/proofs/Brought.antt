@@ -66,21 +66,21 @@ module _ (p c g : ℕ) (short : p < 2 ^ 32) (s : IsScaled p c g) where
           let moved = sym (value-unit 2 31 p (unit 2 31) (operandUnit - unit 2 31) short n (lit≤ tt)) ∙ value-scaled p c g short n s (operandUnit - scaledUnit) in
           rw (ne-eqb p (nar 31) n) (ap total (amount-is (value 2 31 (unit 2 31) p) (isNegative 31 p) g c (operandUnit - scaledUnit) moved))
 
-pub nar-brought : (p q : ℕ) → eitherNar 2 31 p q ≡ true → notReal ≡ ofProduct 2 31 p q
-unfolding ofProduct
-nar-brought p q e = go (ℕ-discrete p (nar 31)) (ℕ-discrete q (nar 31))
-  where
-    go : Dec (p ≡ nar 31) → Dec (q ≡ nar 31) → notReal ≡ ofProduct 2 31 p q
-    go (yes h) k = rw (eq-eqb p (nar 31) h)
-    go (no h) (yes k) = rw (ne-eqb p (nar 31) h, eq-eqb q (nar 31) k)
-    go (no h) (no k) = absurd (true≢false (sym e ∙ ap₂ _||_ (ne-eqb p (nar 31) h) (ne-eqb q (nar 31) k)))
-
 module _ (p q c d g h : ℕ) (short : p < 2 ^ 32) (short′ : q < 2 ^ 32) (s : IsScaled p c g) (t : IsScaled q d h) where
-  pub product-brought : eitherNar 2 31 p q ≡ false → total (withSign (xor (isNegative 31 p) (isNegative 31 q)) (amount (c + d + (operandUnit - 2 * scaledUnit)) (g * h))) ≡ ofProduct 2 31 p q
+  abbrev Brought : Type 0
+  Brought =
+      cond (eqb p (nar 31) || eqb q (nar 31)) notReal (total (withSign (xor (isNegative 31 p) (isNegative 31 q)) (amount (c + d + (operandUnit - 2 * scaledUnit)) (g * h))))
+      ≡ ofProduct 2 31 p q
+
+  pub product-brought : Brought
   unfolding ofProduct
-  product-brought e =
-      let n = neither-nar 2 31 p q e in
-      rw (ne-eqb p (nar 31) (n .0), ne-eqb q (nar 31) (n .1))
-      (ap total
-      (amount-is (exactProduct 2 31 p q) (xor (isNegative 31 p) (isNegative 31 q)) (g * h) (c + d) (operandUnit - 2 * scaledUnit)
-      (product-scaled p q c d g h short short′ (n .0) (n .1) s t (operandUnit - 2 * scaledUnit))))
+  product-brought = go (ℕ-discrete p (nar 31)) (ℕ-discrete q (nar 31))
+    where
+      go : Dec (p ≡ nar 31) → Dec (q ≡ nar 31) → Brought
+      go (yes e) f = rw (eq-eqb p (nar 31) e)
+      go (no n) (yes f) = rw (ne-eqb p (nar 31) n, eq-eqb q (nar 31) f)
+      go (no n) (no m) =
+          rw (ne-eqb p (nar 31) n, ne-eqb q (nar 31) m)
+          (ap total
+          (amount-is (exactProduct 2 31 p q) (xor (isNegative 31 p) (isNegative 31 q)) (g * h) (c + d) (operandUnit - 2 * scaledUnit)
+          (product-scaled p q c d g h short short′ n m s t (operandUnit - 2 * scaledUnit))))

@@ -34,18 +34,10 @@ pub(crate) fn posit_of(p: P32E2) -> Operand
 pub(crate) fn product_of(a: P32E2, b: P32E2) -> Operand
     ensures { λ r. ⌜ (r .shift < 512) × (brought (r .nar) (r .negative) (r .shift) (r .significand) ≡ ofProduct 2 31 (a .0) (b .0)) ⌝ }
 {
-    if either_nar(a.0, b.0) {
-        return Operand {
-            nar: true,
-            negative: false,
-            shift: 0,
-            significand: 0,
-        };
-    }
     let x = scaled_of(a.0);
     let y = scaled_of(b.0);
     Operand {
-        nar: false,
+        nar: either_nar(a.0, b.0),
         negative: (a.0 > NAR) != (b.0 > NAR),
         shift: x.scale + y.scale + 4,
         significand: x.significand * y.significand,
