@@ -16,7 +16,7 @@ use lib.ListN.{length, replicate}
 use Rattle.posit.specs.Pattern.{nar}
 use Rattle.posit.specs.Digits.{number, InBase}
 use Rattle.posit.specs.Operation.{exact, exactProduct}
-use Rattle.posit.specs.Accumulator.{State, notReal, total, clear, ofPosit, ofProduct, plus, minus, negated, words, fromWords, image, fromImage}
+use Rattle.posit.specs.Accumulator.{State, notReal, total, clear, ofPosit, ofProduct, plus, minus, negated, words, image, fromImage}
 use Rattle.posit.proofs.Computing.{everything}
 use Rattle.posit.proofs.Digits.{number-lt}
 use Rattle.posit.proofs.Signs.{withSign, sum-same}

@@ -1,8 +1,8 @@
 -- A posit, or the exact product of two, as an operand of a step: what scale and significand tell of a value, in units of 2 ^ - operandUnit, one word finer than those of
 -- the accumulator. An operand's amount leaves no remainder, since the value is a whole number of the accumulator's units (`undivided`).
-use mathlib.Core.Path.{_≡_, refl, sym, ap, ap₂, _∙_}
+use mathlib.Core.Path.{_≡_, refl, sym, ap, _∙_}
 use mathlib.Core.Logic.{_≢_}
-use mathlib.Core.Bool.{Bool, true, false, cond, xor, _||_, true≢false}
+use mathlib.Core.Bool.{Bool, true, false, cond, xor, _||_}
 use Prim.Native.Nat.{ℕ, zero, suc, _+_, _-_, _*_, _/_, _^_, _<_}
 use native.Mathlib.Nat.{mul-assoc, mul-pos, mul-div-cancel}
 use native.Mathlib.Decide.{ℕ-discrete}
@@ -16,7 +16,6 @@ use Rattle.posit.specs.Operation.{exact, exactProduct}
 use Rattle.posit.specs.Accumulator.{notReal, total, ofPosit, ofProduct}
 use Rattle.posit.proofs.Signs.{withSign, by-sign, scaled-sign}
 use Rattle.posit.proofs.Unsigned.{value-unit}
-use Rattle.posit.proofs.Operation.{eitherNar, neither-nar}
 use Rattle.unpacking.specs.Scaled.{scaledUnit, IsScaled}
 use Rattle.unpacking.proofs.Valued.{value-scaled, product-scaled}
 use Rattle.quire_words.proofs.Operand.{operandUnit, amount}

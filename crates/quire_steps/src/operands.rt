@@ -29,8 +29,7 @@ pub(crate) fn posit_of(p: P32E2) -> Operand
     }
 }
 
-// The exact product of two: from the unit of the significands' product, 2^-300, it is 4 digits to the operand's. NaR is answered first, so that `scaled_of` need
-// not ask for it again.
+// The exact product of two: from the unit of the significands' product, 2^-300, it is 4 digits to the operand's.
 pub(crate) fn product_of(a: P32E2, b: P32E2) -> Operand
     ensures { λ r. ⌜ (r .shift < 512) × (brought (r .nar) (r .negative) (r .shift) (r .significand) ≡ ofProduct 2 31 (a .0) (b .0)) ⌝ }
 {

@@ -2,8 +2,7 @@
 use mathlib.Core.Path.{ap, _∙_}
 use native.Mathlib.Omega.{arith}
 use borrow.Author.Needs.{needs}
-use Rattle.posit.specs.Accumulator.{plus, words, fromWords}
-use Rattle.quire_words.proofs.Operand.{brought}
+use Rattle.posit.specs.Accumulator.{words, fromWords}
 use Rattle.quire_steps.proofs.Stepped.{directed-brought}
 use Rattle.quire_steps.proofs.step_by.Statement.{statement}
 use Rattle.quire_steps.proofs.step_by.Tie as tie
