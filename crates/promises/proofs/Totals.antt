@@ -1,45 +1,54 @@
--- The state that a history leads to is its exact total, as long as no operand is NaR and the total stays within the range (`exact-after`); and what a step may
--- move the total by is at most 2 ^ 480, so that 2 ^ 31 - 1 steps never leave the range (`stays-short`).
+-- The state that a history leads to is its exact total, as long as no operand is NaR and the total stays within the range (`exact-after`); and what an operand may
+-- move the total by is at most 2 ^ 480, so that 2 ^ 31 - 1 operands never lead out of the range (`stays-short`).
 use mathlib.Core.Path.{_≡_, refl, sym, ap, ap₂, subst, subst₂, _∙_}
-use mathlib.Core.Logic.{_≢_}
-use mathlib.Core.Bool.{Bool, true, false, cond, not, xor}
+use mathlib.Core.Logic.{_≢_, _↔_}
+use mathlib.Core.Bool.{Bool, true, false, cond, not, xor, false≢true}
 use mathlib.Core.List.{List, [], _∷_}
 use Prim.Native.Nat.{ℕ, zero, suc, _+_, _-_, _*_, _^_, _≤_, _<_, zero-le}
-use native.Mathlib.Nat.{le-add-right, le-trans, le-refl, lt-of-le-of-lt, mul-le-mul-left, mul-le-mul-right, mul-lt-mul-of-pos-right}
+use native.Mathlib.Nat.{le-trans, le-refl, lt-of-le-of-lt, mul-le-mul-left, mul-le-mul-right, mul-lt-mul-of-pos-right}
 use native.Mathlib.Decide.{decLt, ℕ-discrete}
 use native.Mathlib.Omega.{arith}
-use borrow.Author.Tests.{ne-eqb, lt-ltb, le-ltb}
-use lib.Dec.{ltb, lit<, lit≤}
-use lib.IntN.{ℤ, pos, negsuc, negℤ, natAbs, _+ℤ_, _-ℤ_, _*ℤ_, +ℤ-comm}
+use borrow.Author.Tests.{eq-eqb, ne-eqb, lt-ltb, le-ltb}
+use lib.Dec.{T, ltb, lit<, lit≤, eqb→eq}
+use lib.IntN.{ℤ, pos, negsuc, negℤ, natAbs, _+ℤ_, _*ℤ_, +ℤ-comm}
 use lib.ListN.{length}
 use lib.Pow.{pow-pos}
 use Rattle.posit.specs.Pattern.{nar, isNegative, unsigned, size, value, least, unit}
 use Rattle.posit.specs.Operation.{exact, exactProduct}
-use Rattle.posit.specs.Accumulator.{notReal, total, kept, ofPosit, ofProduct, plus, minus, negated}
+use Rattle.posit.specs.Accumulator.{State, notReal, total, clear, isClear, isNotReal, image, fromImage, kept, ofPosit, ofProduct, plus, minus, negated}
 use Rattle.posit.proofs.Size.{size-le, largest-size}
+use Rattle.posit.proofs.State.{Held}
 use Rattle.posit.proofs.Signs.{withSign, by-sign, product-signs, sum-same, sum-unlike}
 use Rattle.posit.proofs.Unsigned.{unsigned-positive, value-real}
 use Rattle.quire_steps.proofs.Range.{size-of}
-use Rattle.promises.specs.History.{Step, addPosit, takePosit, addProduct, takeProduct, negate, throughImage, moves, totalFrom, Number, Numbers, WithoutNar, Within, StaysFrom}
-use Rattle.promises.proofs.Tracked.{stepped, after}
+use Rattle.promises.specs.History.{Operand, aPosit, aProduct, Direction, added, taken, Step, move, negate, turn, worth, directed, moves, totalFrom, totalOf, OfStep, Number, Numbers, WithoutNar, Within, StaysFrom, Keeps, plain, operandsIn}
+use Rattle.promises.proofs.Said.{brought, shifted}
+use Rattle.promises.proofs.Tracked.{stepped, after, after-held, image-back, clear-held}
 
 -- ---- the exact total
-
-plus-total : (t x : ℤ) → Within (t +ℤ x) → plus 512 (total t) (total x) ≡ total (t +ℤ x)
-unfolding plus
-plus-total t x w = rw (lt-ltb (natAbs (t +ℤ x)) (2 ^ 511) w)
-
-minus-total : (t x : ℤ) → Within (t -ℤ x) → minus 512 (total t) (total x) ≡ total (t -ℤ x)
-unfolding minus negated
-minus-total t x w = plus-total t (negℤ x) w
 
 pub posit-total : (p : ℕ) → p ≢ nar 31 → ofPosit 2 31 p ≡ total (exact 2 31 p)
 unfolding ofPosit
 posit-total p n = rw (ne-eqb p (nar 31) n)
 
-pub product-total : (a b : ℕ) → a ≢ nar 31 → b ≢ nar 31 → ofProduct 2 31 a b ≡ total (exactProduct 2 31 a b)
+product-total : (a b : ℕ) → a ≢ nar 31 → b ≢ nar 31 → ofProduct 2 31 a b ≡ total (exactProduct 2 31 a b)
 unfolding ofProduct
 product-total a b n m = rw (ne-eqb a (nar 31) n, ne-eqb b (nar 31) m)
+
+-- what an operand brings that is not NaR
+pub brought-total : (x : Operand) → Numbers x → brought x ≡ total (worth x)
+unfolding brought worth
+brought-total (aPosit p) n = posit-total p (n .1)
+brought-total (aProduct a b) n = product-total a b (n .0 .1) (n .1 .1)
+
+-- a state that is moved by a total: the exact new total, where it is kept
+pub shifted-total : (d : Direction) (t x : ℤ) → shifted d (total t) (total x) ≡ kept 512 (directed d t x)
+unfolding plus minus negated
+shifted-total added t x = refl
+shifted-total taken t x = refl
+
+inside : (t : ℤ) → Within t → kept 512 t ≡ total t
+inside t w = rw (lt-ltb (natAbs t) (2 ^ 511) w)
 
 -- a total outside the range is not kept
 pub outside : (t : ℤ) → (Within t → ⊥) → kept 512 t ≡ notReal
@@ -48,14 +57,11 @@ outside t o = above (2 ^ 511) (natAbs t) o
     above : (H n : ℕ) → (n < H → ⊥) → cond (ltb n H) (total t) notReal ≡ notReal
     above H n o = rw (le-ltb n H (omega arith))
 
-pub exact-step : (s : Step) (t : ℤ) → Numbers s → Within (moves s t) → stepped s (total t) ≡ total (moves s t)
+pub exact-step : (s : Step) (t : ℤ) → OfStep Numbers s → Within (moves s t) → stepped s (total t) ≡ total (moves s t)
 unfolding stepped moves negated
-exact-step (addPosit p) t n w = ap (plus 512 (total t)) (posit-total p (n .1)) ∙ plus-total t (exact 2 31 p) w
-exact-step (takePosit p) t n w = ap (minus 512 (total t)) (posit-total p (n .1)) ∙ minus-total t (exact 2 31 p) w
-exact-step (addProduct a b) t n w = ap (plus 512 (total t)) (product-total a b (n .0 .1) (n .1 .1)) ∙ plus-total t (exactProduct 2 31 a b) w
-exact-step (takeProduct a b) t n w = ap (minus 512 (total t)) (product-total a b (n .0 .1) (n .1 .1)) ∙ minus-total t (exactProduct 2 31 a b) w
+exact-step (move d x) t n w = ap (shifted d (total t)) (brought-total x n) ∙ shifted-total d t (worth x) ∙ inside (directed d t (worth x)) w
 exact-step negate t n w = refl
-exact-step throughImage t n w = refl
+exact-step turn t n w = refl
 
 pub exact-after : (h : List Step) (t : ℤ) → WithoutNar h → StaysFrom t h → after h (total t) ≡ total (totalFrom t h)
 exact-after [] t n k = refl
@@ -115,30 +121,73 @@ product-at-most a b n m =
     rw (abs-product (value 2 31 (least 2 31) a) (value 2 31 (least 2 31) b))
     (le-trans (mul-le-mul-left (natAbs (value 2 31 (least 2 31) a)) (value-at-most (least 2 31) b (lit≤ tt) m)) (mul-le-mul-right (2 ^ unit 2 31) (value-at-most (least 2 31) a (lit≤ tt) n)))
 
-added : (M : ℕ) (t x : ℤ) → natAbs x ≤ M → natAbs (t +ℤ x) ≤ natAbs t + M
-added M t x h = omega (arith, abs-sum t x)
+worth-at-most : (x : Operand) → Numbers x → natAbs (worth x) ≤ 2 ^ 480
+unfolding worth
+worth-at-most (aPosit p) n = posit-at-most p n
+worth-at-most (aProduct a b) n = product-at-most a b (n .0) (n .1)
 
-taken : (M : ℕ) (t x : ℤ) → natAbs x ≤ M → natAbs (t -ℤ x) ≤ natAbs t + M
-taken M t x h = added M t (negℤ x) (rw (abs-negated x) h)
+directed-at-most : (M : ℕ) (d : Direction) (t x : ℤ) → natAbs x ≤ M → natAbs (directed d t x) ≤ natAbs t + M
+directed-at-most M added t x h = omega (arith, abs-sum t x)
+directed-at-most M taken t x h = omega (arith, abs-sum t (negℤ x), abs-negated x)
 
-move-at-most : (s : Step) (t : ℤ) → Numbers s → natAbs (moves s t) ≤ natAbs t + 2 ^ 480
-unfolding moves
-move-at-most (addPosit p) t n = added (2 ^ 480) t (exact 2 31 p) (posit-at-most p n)
-move-at-most (takePosit p) t n = taken (2 ^ 480) t (exact 2 31 p) (posit-at-most p n)
-move-at-most (addProduct a b) t n = added (2 ^ 480) t (exactProduct 2 31 a b) (product-at-most a b (n .0) (n .1))
-move-at-most (takeProduct a b) t n = taken (2 ^ 480) t (exactProduct 2 31 a b) (product-at-most a b (n .0) (n .1))
-move-at-most negate t n = rw (abs-negated t) (le-add-right (natAbs t) (2 ^ 480))
-move-at-most throughImage t n = le-add-right (natAbs t) (2 ^ 480)
+-- after c + 1 moves of at most M each
+next-move : (M c x y : ℕ) → x ≤ c * M → y ≤ x + M → y ≤ suc c * M
+next-move M c x y h k = omega arith
 
--- n steps of at most M, of which c have been taken
-next-step : (M c x y : ℕ) → x ≤ c * M → y ≤ x + M → y ≤ suc c * M
-next-step M c x y h k = omega arith
-
-in-range : (M c x : ℕ) → 0 < M → x ≤ suc c * M → suc c < 2 ^ 31 → x < 2 ^ 31 * M
+in-range : (M c x : ℕ) → 0 < M → x ≤ c * M → c < 2 ^ 31 → x < 2 ^ 31 * M
 in-range M c x p h k = lt-of-le-of-lt h (mul-lt-mul-of-pos-right k p)
 
-pub stays-short : (h : List Step) (t : ℤ) (c : ℕ) → WithoutNar h → natAbs t ≤ c * 2 ^ 480 → c + length h < 2 ^ 31 → StaysFrom t h
+-- c operands have been moved by; a negation or a turn leaves the size as it was
+pub stays-short : (h : List Step) (t : ℤ) (c : ℕ) → WithoutNar h → natAbs t ≤ c * 2 ^ 480 → c + operandsIn h < 2 ^ 31 → StaysFrom t h
+unfolding moves
 stays-short [] t c n k l = tt
-stays-short (s ∷ h) t c n k l =
-    let step = next-step (2 ^ 480) c (natAbs t) (natAbs (moves s t)) k (move-at-most s t (n .0)) in
-    (in-range (2 ^ 480) c (natAbs (moves s t)) (pow-pos 480) step (omega arith), stays-short h (moves s t) (suc c) (n .1) step (omega arith))
+stays-short (move d x ∷ h) t c n k l =
+    let moved = next-move (2 ^ 480) c (natAbs t) (natAbs (directed d t (worth x))) k (directed-at-most (2 ^ 480) d t (worth x) (worth-at-most x (n .0))) in
+    (in-range (2 ^ 480) (suc c) (natAbs (directed d t (worth x))) (pow-pos 480) moved (omega arith), stays-short h (directed d t (worth x)) (suc c) (n .1) moved (omega arith))
+stays-short (negate ∷ h) t c n k l =
+    let same : natAbs (negℤ t) ≤ c * 2 ^ 480 = rw (abs-negated t) k in
+    (in-range (2 ^ 480) c (natAbs (negℤ t)) (pow-pos 480) same (omega arith), stays-short h (negℤ t) c (n .1) same l)
+stays-short (turn ∷ h) t c n k l = (in-range (2 ^ 480) c (natAbs t) (pow-pos 480) k (omega arith), stays-short h t c (n .1) k l)
+
+-- negations are counted as steps, and turns are not
+pub operands-at-most : (h : List Step) → operandsIn h ≤ length (plain h)
+operands-at-most [] = lit≤ tt
+operands-at-most (move d x ∷ h) = omega (arith, operands-at-most h)
+operands-at-most (negate ∷ h) = omega (arith, operands-at-most h)
+operands-at-most (turn ∷ h) = operands-at-most h
+
+-- ---- a total, of its state and of its image
+
+pub total-is-real : {t : ℤ} → total t ≡ notReal → ⊥
+total-is-real e = subst real e tt
+  where
+    real : State → Type 0
+    real notReal = ⊥
+    real (total t) = Unit {0}
+
+pub total-one : {x y : ℤ} → total x ≡ total y → x ≡ y
+total-one e = ap value-of e
+  where
+    value-of : State → ℤ
+    value-of notReal = pos 0
+    value-of (total t) = t
+
+-- what is read of the image of a kept history's total is that total
+pub image-total : (h : List Step) → Keeps h → fromImage 512 (image 512 (total (totalOf h))) ≡ total (totalOf h)
+image-total h (n, s) = image-back (total (totalOf h)) (subst (Held 512) (exact-after h (pos 0) n s) (after-held h clear clear-held))
+
+-- ---- the two questions
+
+pub clear-exactly : (q : State) → (isClear q ≡ true) ↔ (q ≡ clear)
+unfolding isClear
+clear-exactly notReal = (λ e. absurd (false≢true e), λ e. absurd (total-is-real (sym e)))
+clear-exactly (total (pos n)) = (λ e. ap (λ (k : ℕ). total (pos k)) (eqb→eq n 0 (subst T (sym e) tt)), λ e. eq-eqb n 0 (ap natAbs (total-one e)))
+clear-exactly (total (negsuc n)) = (λ e. absurd (false≢true e), λ e. absurd (below (total-one e)))
+  where
+    below : negsuc n ≡ pos 0 → ⊥
+    below e = let k : suc n ≡ 0 = ap natAbs e in omega arith
+
+pub nar-exactly : (q : State) → (isNotReal q ≡ true) ↔ (q ≡ notReal)
+unfolding isNotReal
+nar-exactly notReal = (λ e. refl, λ e. refl)
+nar-exactly (total t) = (λ e. absurd (false≢true e), λ e. absurd (total-is-real e))
