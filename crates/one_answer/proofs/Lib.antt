@@ -7,3 +7,4 @@ mod Engines
 mod Arguments
 mod Wrong
 mod Handed
+mod Writers

@@ -1,10 +1,12 @@
 -- The wrong engines, each against the contracts that it would have to meet. The arguments on which it fails are computed by the definitions.
 use mathlib.Core.Path.{_≡_, refl, ap}
 use mathlib.Core.List.{[], _∷_}
+use mathlib.Core.Logic.{_≢_}
 use Prim.Native.Nat.{_^_}
 use lib.Dec.{T, ltb}
 use lib.ListN.{length, take}
 use Rattle.desk.proofs.Computing.{everything}
+use Rattle.posit.specs.Pattern.{nar}
 use Rattle.posit.specs.Digits.{number}
 use Rattle.posit.specs.Accumulator.{words, fromWords}
 use Rattle.desk.specs.Desk.{afterBatch}
@@ -14,12 +16,13 @@ use Rattle.desk.specs.declared.image.WriteAnswer.the-variants as write
 use Rattle.desk.specs.declared.image.ReadAnswer.the-variants as read
 use Rattle.desk.specs.declared.batch.BatchAnswer.the-variants as batch
 use Rattle.desk.specs.declared.claim.ClaimAnswer.the-variants as claim
-use Rattle.one_answer.specs.Engines.{NoConstant, NotAlways, Never}
-use Rattle.one_answer.proofs.Engines.{constant-fails, always-fails, never}
+use Rattle.one_answer.specs.Engines.{NoConstant, NotAlways, Never, NotAsking, NotAskingLent}
+use Rattle.one_answer.proofs.Engines.{differ, constant-fails, always-fails, never, asking-fails, asking-lent-fails}
 use Rattle.one_answer.proofs.Arguments.{bits, to, eight, bytes, lent}
 use Rattle.one_answer.proofs.Arithmetic.{p32e2-neg-fixes, p32e2-add-fixes, p32e2-sub-fixes, p32e2-mul-fixes, p32e2-div-fixes, p32e2-recip-fixes, p32e2-sqrt-fixes, p32e2-mul-add-fixes, p32e2-mul-sub-fixes, p32e2-sub-product-fixes}
 use Rattle.one_answer.proofs.Accumulator.{quire-steps-add-product-fixes, quire-steps-sub-product-fixes, quire-steps-add-posit-fixes, quire-steps-sub-posit-fixes, quire-steps-neg-fixes, quire-steps-from-posit-fixes, quire-totals-to-posit-fixes, quire32-add-product-fixes, quire32-sub-product-fixes, quire32-add-posit-fixes, quire32-sub-posit-fixes}
 use Rattle.one_answer.proofs.Desk.{desk-image-of-fixes, desk-write-image-fixes, desk-read-image-fixes, desk-add-batch-fixes, desk-check-claim-fixes, desk-write-number-fixes, desk-read-number-fixes, desk-batch-number-fixes, desk-claim-number-fixes, desk-lent-write-image-fixes, desk-lent-read-image-fixes, desk-lent-add-batch-fixes}
+use Rattle.one_answer.proofs.Linked.{capi-neg-fixes}
 
 -- ---- the same every time: NaR, or a posit, or anything else
 pub p32e2-neg-not-constant : NoConstant p32e2-neg-fixes (λ κs a r u. r .0)
@@ -196,3 +199,35 @@ desk-lent-add-batch-not-idle = never _ (λ κs a x u p. ap wide (p .1)) ([], ([]
 pub desk-lent-add-batch-not-first-only : Never (desk-lent-add-batch-fixes .fixes) (λ κs a r u. wide (u .0 .0)) (λ κs a. wide (words 512 (afterBatch 2 31 512 (fromWords 512 (a .0 .now .0)) (take 1 (a .1 .0 .now)) (take 1 (a .1 .1 .0 .now)))))
 unfolding everything desk-lent-add-batch-fixes
 desk-lent-add-batch-not-first-only = never _ (λ κs a x u p. ap wide (p .1)) ([], ([], ([], tt))) (lent 0, (to (1 ∷ 1 ∷ []), (to (1 ∷ 1 ∷ []), tt))) tt tt
+
+-- ---- one that asks its caller for something: a pattern, a divisor, a radicand, operands, a length
+pub capi-neg-not-asking : NotAsking capi-neg-fixes (λ κs a. a .0 ≡ 0)
+capi-neg-not-asking = asking-fails tt (1, tt) (λ asked. differ {m = 1} {n = 0} tt asked)
+
+pub p32e2-div-not-asking : NotAsking p32e2-div-fixes (λ κs a. a .1 .0 .0 ≢ 0)
+p32e2-div-not-asking = asking-fails tt (bits 1, (bits 0, tt)) (λ asked. asked refl)
+
+pub p32e2-sqrt-not-asking : NotAsking p32e2-sqrt-fixes (λ κs a. T (ltb (a .0 .0) (2 ^ 31)))
+p32e2-sqrt-not-asking = asking-fails tt (bits 0xc0000000, tt) (λ asked. asked)
+
+pub quire-steps-add-product-not-asking : NotAsking quire-steps-add-product-fixes (λ κs a. a .1 .0 .0 ≢ nar 31)
+quire-steps-add-product-not-asking = asking-fails tt (eight 0, (bits 0x80000000, (bits 0, tt))) (λ asked. asked refl)
+
+pub desk-write-image-not-asking : NotAsking desk-write-image-fixes (λ κs a. length (a .1 .0 .now) ≡ 64)
+desk-write-image-not-asking = asking-fails ([], tt) (eight 0, (to [], tt)) (λ asked. differ {m = 0} {n = 64} tt asked)
+
+pub desk-read-image-not-asking : NotAsking desk-read-image-fixes (λ κs a. length (a .1 .0 .now) ≡ 64)
+desk-read-image-not-asking = asking-fails ([], tt) (eight 0, (to [], tt)) (λ asked. differ {m = 0} {n = 64} tt asked)
+
+pub desk-add-batch-not-asking : NotAsking desk-add-batch-fixes (λ κs a. length (a .1 .0 .now) ≡ length (a .1 .1 .0 .now))
+desk-add-batch-not-asking = asking-fails ([], ([], tt)) (eight 0, (to (0 ∷ []), (to [], tt))) (λ asked. differ {m = 1} {n = 0} tt asked)
+
+pub desk-check-claim-not-asking : NotAsking desk-check-claim-fixes (λ κs a. length (a .1 .1 .0 .now) ≡ 64)
+desk-check-claim-not-asking = asking-fails ([], ([], ([], tt))) (to [], (to [], (to [], tt))) (λ asked. differ {m = 0} {n = 64} tt asked)
+
+-- and lent
+pub quire32-add-posit-not-asking : NotAskingLent quire32-add-posit-fixes (λ κs a. a .1 .0 .0 ≢ nar 31)
+quire32-add-posit-not-asking = asking-lent-fails ([], tt) (lent 0, (bits 0x80000000, tt)) (λ asked. asked refl)
+
+pub desk-lent-read-image-not-asking : NotAskingLent desk-lent-read-image-fixes (λ κs a. length (a .1 .0 .now) ≡ 64)
+desk-lent-read-image-not-asking = asking-lent-fails ([], ([], tt)) (lent 0, (to [], tt)) (λ asked. differ {m = 0} {n = 64} tt asked)

@@ -1,3 +1,4 @@
--- What it means that a contract leaves one answer, and that a wrong engine does not meet it.
+-- What it means that a contract asks nothing and leaves one answer, and that a wrong engine does not meet it.
 pub mod Fixes
 pub mod Engines
+pub mod Writers

@@ -3,6 +3,7 @@ pub mod Demand1
 pub mod Demand1Callers
 pub mod Demand2
 pub mod Demand3
+pub mod Asking
 pub mod Said
 pub mod Refusals
 pub mod Told

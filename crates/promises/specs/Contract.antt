@@ -53,3 +53,9 @@ module _ (T : Ended) where
   AnswersLent clauses =
       (M : Type 1) (𝓤 : URA M) (H : Heap 𝓤) (A : Atoms 𝓤) (mem : Memory → SProp 𝓤) (run : Routine → Fun 𝓤) (κs : Lifetimes) (a : Args (T .signature) κs)
       → (g : clauses M 𝓤 H A mem run κs a .ghost) × (clauses M 𝓤 H A mem run κs a .requires g ≡ emp 𝓤)
+
+  -- clauses that ask for something: in every model the `requires` is the assertion of it
+  abbrev pub AsksFor : Stated → Before → Type 2
+  AsksFor clauses asked =
+      (M : Type 1) (𝓤 : URA M) (H : Heap 𝓤) (A : Atoms 𝓤) (mem : Memory → SProp 𝓤) (run : Routine → Fun 𝓤) (κs : Lifetimes) (a : Args (T .signature) κs)
+      (g : clauses M 𝓤 H A mem run κs a .ghost) → clauses M 𝓤 H A mem run κs a .requires g ≡ fact 𝓤 (asked κs a)
