@@ -1,5 +1,6 @@
--- What the words of demand 1 come to. A contract that answers everything asks for nothing that some arguments lack (`nothing-lacking`). Of the clauses of a method that is lent a struct the same, shown at the closed
--- model of the logic: the empty assertion holds there, and that of a fact only where the fact does (`nothing-lacking-lent`).
+-- What the words of demand 1 come to, so that they cannot be emptied unseen. A contract that answers everything asks for nothing that some arguments lack (`nothing-lacking`). Of the
+-- clauses of a method that is lent a struct the same, shown at the closed model of the logic: the empty assertion holds there, and that of a fact only where the fact does
+-- (`nothing-lacking-lent`). What is untouched is at exit as it was (`as-it-was`).
 use mathlib.Core.Path.{_≡_, sym, subst, _∙_}
 use mathlib.Core.Logic.{∥∥₁-elim}
 use mathlib.Core.HLevel.{⊥-prop}

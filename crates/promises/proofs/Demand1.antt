@@ -1,4 +1,4 @@
--- Demand 1. Every 32-bit pattern, accumulator and slice gets an answer, and no public function leaves a check to its caller: what its contract asks holds of any arguments.
+-- Demand 1. Every 32-bit pattern, accumulator and slice gets an answer; that no public function leaves a check to its caller is said of all of them in `Demand1Callers`.
 -- A wrong length, an oversized batch or a false claim gets its number, each exactly when its row says so, in the order 3, 4, 1, 5, and what was lent stays untouched.
 use mathlib.Core.Path.{_≡_, refl, sym, ap, subst, _∙_}
 use mathlib.Core.Logic.{_≢_}

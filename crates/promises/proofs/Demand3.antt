@@ -14,6 +14,7 @@ use lib.IntN.{ℤ, pos}
 use lib.ListN.{length}
 use Rattle.posit.specs.Accumulator.{notReal, total, clear, words, fromWords, image, fromImage}
 use Rattle.desk.specs.Batch.{batch}
+use Rattle.desk.specs.Desk.{pairLimit}
 use Rattle.desk.proofs.Refused.{no-refusal, batch-done}
 use Rattle.quire32.proofs.Q32E2.from_bits.Reads as from-bits
 use Rattle.promises.specs.History.{Step, turn, totalOf, OfPatterns, WithoutNar, Stays, Keeps, plain, operandsIn, products}
@@ -125,7 +126,7 @@ batch-adds-its-products way by q xs ys r z t adds runs =
     runs-state by (products xs ys) (fromWords 512 q) q z (words-held q t) (sym (words-back q t)) runs ∙ sym (s .1 ∙ ap (words 512) (batch-done xs ys (fromWords 512 q) (sym (s .0)) ∙ batch-after xs ys (fromWords 512 q)))
 
 -- a claim is right exactly when it is the image of the history of its batch, which may have been run by any routes
-pub right-claims-are-images : (way : Way) (xs ys cs : List ℕ) (n : ℕ) → Claiming way xs ys cs n → length xs ≡ length ys → length xs ≤ 16384 → (n ≡ 0) ↔ Image (products xs ys) cs
+pub right-claims-are-images : (way : Way) (xs ys cs : List ℕ) (n : ℕ) → Claiming way xs ys cs n → length xs ≡ length ys → length xs ≤ pairLimit → (n ≡ 0) ↔ Image (products xs ys) cs
 right-claims-are-images way xs ys cs n claims e l =
     let right = claim-right xs ys cs (no-refusal xs ys e l) in
     let said = claims-says way xs ys cs n claims in

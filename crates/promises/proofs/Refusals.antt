@@ -22,7 +22,7 @@ use Rattle.desk.specs.declared.batch.BatchAnswer.{BatchAnswer}
 use Rattle.desk.specs.declared.batch.BatchAnswer.the-variants as of-batch
 use Rattle.desk.specs.declared.claim.ClaimAnswer.{ClaimAnswer}
 use Rattle.desk.specs.declared.claim.ClaimAnswer.the-variants as of-claim
-use Rattle.desk.specs.Desk.{lengthRefusal, bufferRefusal, batchRefusal, claimRefusal, writtenTo, readInto, afterBatch}
+use Rattle.desk.specs.Desk.{pairLimit, lengthRefusal, bufferRefusal, batchRefusal, claimRefusal, writtenTo, readInto, afterBatch}
 use Rattle.posit.proofs.Digits.{same-equal}
 use Rattle.desk.proofs.Spelt.{image-long}
 use Rattle.desk.proofs.Refused.{unequal, too-many, no-refusal, batch-refused, claim-refused, claim-of-other-length, claim-compared, buffer-short, buffer-wide, other-length, right-length}
@@ -66,9 +66,9 @@ lists-due :
     → ((k : ℕ) → batchRefusal xs ys ≡ k → k ≢ 0 → n ≡ k)
     → (batchRefusal xs ys ≡ 0 → Due rows n)
     → Due (unequalLists xs ys ∷ tooManyPairs xs ∷ rows) n
-lists-due rows xs ys n first rest = go (ℕ-discrete (length xs) (length ys)) (decLt 16384 (length xs))
+lists-due rows xs ys n first rest = go (ℕ-discrete (length xs) (length ys)) (decLt pairLimit (length xs))
   where
-    go : Dec (length xs ≡ length ys) → Dec (16384 < length xs) → Due (unequalLists xs ys ∷ tooManyPairs xs ∷ rows) n
+    go : Dec (length xs ≡ length ys) → Dec (pairLimit < length xs) → Due (unequalLists xs ys ∷ tooManyPairs xs ∷ rows) n
     go (no o) _ = inl (o, first 3 (unequal xs ys o) (λ z. omega arith))
     go (yes e) (yes l) = inr ((λ o. o e), inl (l, first 4 (too-many xs ys e l) (λ z. omega arith)))
     go (yes e) (no l) = inr ((λ o. o e), inr (l, rest (no-refusal xs ys e (omega arith))))

@@ -1,5 +1,6 @@
 -- The words that a history leads to are those of the state that the definitions lead to (`runs-state`), and so is its image (`shown`): each step's contract says so of
 -- that step, whichever way it is taken. And every history can be run, each step by any way (`can-lead`, `can-run`).
+-- Turns through the image are passed over (`turns-passed`), and a batch is its products added one by one (`batch-after`).
 use mathlib.Core.Path.{_≡_, refl, sym, ap, subst, _∙_}
 use mathlib.Core.List.{List, [], _∷_, _++_}
 use Prim.Native.Nat.{ℕ, zero, suc}

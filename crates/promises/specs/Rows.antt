@@ -6,6 +6,7 @@ use Prim.Native.Nat.{ℕ, _<_}
 use lib.ListN.{length}
 use Rattle.posit.specs.Accumulator.{clear, image}
 use Rattle.desk.specs.Batch.{batch}
+use Rattle.desk.specs.Desk.{pairLimit}
 
 pub record Row : Type 1 where
   pub number : ℕ
@@ -33,7 +34,7 @@ abbrev pub unequalLists : List ℕ → List ℕ → Row
 unequalLists xs ys = record { number = 3; applies = length xs ≢ length ys }
 
 abbrev pub tooManyPairs : List ℕ → Row
-tooManyPairs xs = record { number = 4; applies = 16384 < length xs }
+tooManyPairs xs = record { number = 4; applies = pairLimit < length xs }
 
 -- a claim that differs from the rebuilt image
 abbrev pub otherImage : List ℕ → List ℕ → List ℕ → Row
