@@ -192,23 +192,27 @@ function read_specs(    line, place) {
     if (FILENAME ~ /\/Lib[.]antt$/) { if (line !~ /^pub mod [A-Za-z]+$/) fault(place " is no `pub mod`"); return }
     if (line ~ /^use /) { bring(line, place); return }
     if (line ~ /\t/) fault(place ": a tab is not read here")
-    if (line ~ /^[^ ]/) section = line ~ /^module _ /
-    if (section && line ~ /^m/) {
+    if (line ~ /^[^ ]/) section = line ~ /^(module _ |(abbrev |unfoldable )?mutual$)/
+    if (section && line ~ /^[^ ]/) {
         now = ""
         told_by_section = ""
-        in_header = 1
+        in_header = line ~ /^module/
     } else if (line ~ /^[^ ]/ || section && line ~ /^  [^ ]/) read_head(substr(line, section ? 3 : 1), place)
     else if (now == "" && !(section && in_header)) fault(place ": a line that belongs to nothing")
     if (line ~ / where$/) in_header = 0
     judge_paths(line, place)
     note_words(line)
+    if (is_no_text(line)) return
     if (now == "") told_by_section = told_by_section keys(line)
     else body[now] = body[now] keys(line)
 }
 
-# the head of a definition, at the margin or two blanks in where a section is open; or a clause, which is of the definition above it
+# a fixity, and what a definition computes with, tell nothing
+function is_no_text(line) { return line ~ /^ *(unfolding |infix[lr]? [0-9]+ )/ }
+
+# the head of a definition, at the margin or two blanks in where a section or a block of definitions that tell each other is open; or a clause, which is of the definition above it
 function read_head(text, place,    own, name, n, i, spelling) {
-    if (text ~ /^(unfolding |infix[lr]? [0-9]+ |[})]+$)/) return
+    if (is_no_text(text) || text ~ /^[})]+$/) return
     own = text
     sub(/^(unfoldable )?(abbrev )?(pub )?(data |record )?/, "", own)
     name = own
