@@ -388,7 +388,27 @@ def printed():
     return out + ["    ∷ []"]
 
 
-CRATES = {"posit": posit, "unpacking": unpacking, "desk": desk}
+def quire_steps():
+    top, nar, beside = 2 ** 511 - 1, [2 ** 63] + [0] * 7, [2 ** 63] + [0] * 6 + [1]
+    group("accumulator plus accumulator and minus accumulator, at the edges of the range, with NaR on either side, and of a state and itself")
+    for t, u in ((top, 1), (top - 1, 1), (top, top), (top, -top), (-top, -1), (1 - top, -1), (top, None), (None, 1), (None, None), (2 ** 448, -1)):
+        for name, v in (("plus", u), ("minus", None if u is None else -u)):
+            case(f"held ({name} 512 {state(t)} {state(u)})", held(None if t is None or v is None else kept(512, t + v)))
+    for t in (-top, 7):
+        case(f"held (minus 512 {state(t)} {state(t)})", held(0))
+    group("without its sign: the lowest total is in range, and NaR stays")
+    for t in (top, -top, -1, 0, 1, None, -2 ** 64):
+        case(f"held (signOff {state(t)})", held(t if t is None else abs(t)))
+    group("from words: NaR's are no number, and those beside them, with a last bit more, are the lowest total")
+    for ws in (nar, beside):
+        t = None if ws == nar else -top
+        case(f"held (signOff (fromWords 512 {arg(row(ws))}))", held(t and abs(t)))
+        case(f"held (plus 512 (fromWords 512 {arg(row(ws))}) (total (pos 1)))", held(t and t + 1))
+        case(f"held (minus 512 (total (pos 1)) (fromWords 512 {arg(row(ws))}))", held(t and kept(512, 1 - t)))
+    case(f"words 512 (plus 512 {state(2 ** 448 - 1)} {state(1)})", words(512, 2 ** 448))
+
+
+CRATES = {"posit": posit, "unpacking": unpacking, "quire_steps": quire_steps, "desk": desk}
 
 
 def cases_of(crate):

@@ -46,6 +46,18 @@ quire-steps-sub-posit-fixes = record { answers = λ κs a. tt; one = λ κs a x 
 pub quire-steps-neg-fixes : Fixes quire-steps.neg.ended quire-steps.neg.Reads.Pre quire-steps.neg.Reads.Post
 quire-steps-neg-fixes = record { answers = λ κs a. tt; one = λ κs a x y u v p p′. (p ∙ sym p′, refl) }
 
+pub quire-steps-q-abs-fixes : Fixes quire-steps.qAbs.ended quire-steps.qAbs.Reads.Pre quire-steps.qAbs.Reads.Post
+quire-steps-q-abs-fixes = record { answers = λ κs a. tt; one = λ κs a x y u v p p′. (p ∙ sym p′, refl) }
+
+pub quire-steps-q-add-q-fixes : Fixes quire-steps.qAddQ.ended quire-steps.qAddQ.Reads.Pre quire-steps.qAddQ.Reads.Post
+quire-steps-q-add-q-fixes = record { answers = λ κs a. tt; one = λ κs a x y u v p p′. (p ∙ sym p′, refl) }
+
+pub quire-steps-q-sub-q-fixes : Fixes quire-steps.qSubQ.ended quire-steps.qSubQ.Reads.Pre quire-steps.qSubQ.Reads.Post
+quire-steps-q-sub-q-fixes = record { answers = λ κs a. tt; one = λ κs a x y u v p p′. (p ∙ sym p′, refl) }
+
+pub quire-steps-size-of-fixes : FixesTyped quire-steps.size_of.ended (quire-steps.size_of.Kinds.r .is .Ok) quire-steps.size_of.Reads.Pre quire-steps.size_of.Reads.Post
+quire-steps-size-of-fixes = record { answers = λ κs a. tt; one = λ κs a x y u v p p′. (same-words x y (p .0) (p′ .0) (p .1 ∙ sym (p′ .1)), refl) }
+
 pub quire-steps-is-zero-fixes : Fixes quire-steps.is_zero.ended quire-steps.is_zero.Reads.Pre quire-steps.is_zero.Reads.Post
 quire-steps-is-zero-fixes = record { answers = λ κs a. tt; one = λ κs a x y u v p p′. (p ∙ sym p′, refl) }
 

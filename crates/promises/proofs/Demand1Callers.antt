@@ -72,11 +72,15 @@ pub quire-steps-asks-nothing :
     × Answers quire-steps.add_posit.ended quire-steps.add_posit.Reads.Pre
     × Answers quire-steps.sub_posit.ended quire-steps.sub_posit.Reads.Pre
     × Answers quire-steps.neg.ended quire-steps.neg.Reads.Pre
+    × Answers quire-steps.qAbs.ended quire-steps.qAbs.Reads.Pre
+    × Answers quire-steps.qAddQ.ended quire-steps.qAddQ.Reads.Pre
+    × Answers quire-steps.qSubQ.ended quire-steps.qSubQ.Reads.Pre
+    × Answers quire-steps.size_of.ended quire-steps.size_of.Reads.Pre
     × Answers quire-steps.is_zero.ended quire-steps.is_zero.Reads.Pre
     × Answers quire-steps.is_nar.ended quire-steps.is_nar.Reads.Pre
     × Answers quire-steps.cleared.ended quire-steps.cleared.Reads.Pre
     × Answers quire-steps.from_posit.ended quire-steps.from_posit.Reads.Pre
-quire-steps-asks-nothing = (λ κs a. tt, λ κs a. tt, λ κs a. tt, λ κs a. tt, λ κs a. tt, λ κs a. tt, λ κs a. tt, λ κs a. tt, λ κs a. tt)
+quire-steps-asks-nothing = (λ κs a. tt, λ κs a. tt, λ κs a. tt, λ κs a. tt, λ κs a. tt, λ κs a. tt, λ κs a. tt, λ κs a. tt, λ κs a. tt, λ κs a. tt, λ κs a. tt, λ κs a. tt, λ κs a. tt)
 
 pub quire-totals-asks-nothing :
     Answers quire-totals.to_posit.ended quire-totals.to_posit.Reads.Pre

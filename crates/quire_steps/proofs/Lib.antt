@@ -5,3 +5,6 @@ pub mod Moved
 pub mod Words
 pub mod Kept
 pub mod Stepped
+pub mod Joined
+pub mod Computing
+pub mod Vectors

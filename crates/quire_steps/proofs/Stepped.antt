@@ -71,7 +71,7 @@ module _ (s : Bool) (ws : List ℕ) (m z : ℕ) (ne : wide ws ≢ 2 ^ 511) (shor
 -- ---- the direction
 
 -- to take an operand is to add it with the other sign
-directed : (added s : Bool) (q : State) (m : ℕ) → plus 512 q (total (withSign (Bool·beq s added) m)) ≡ moved added q (total (withSign s m))
+pub directed : (added s : Bool) (q : State) (m : ℕ) → plus 512 q (total (withSign (Bool·beq s added) m)) ≡ moved added q (total (withSign s m))
 unfolding minus negated
 directed true true q m = refl
 directed true false q m = refl

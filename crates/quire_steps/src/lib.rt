@@ -5,15 +5,19 @@ ghost use mathlib.Core.Path.{_≡_};
 ghost use mathlib.Core.Bool.{cond, Bool·beq};
 ghost use Prim.Native.Nat.{_-_, _^_, _<_};
 ghost use lib.Dec.{leb};
+ghost use lib.IntN.{natAbs};
+ghost use Rattle.posit.specs.Digits.{reading};
 ghost use Rattle.posit.specs.Accumulator.{notReal, clear, isNotReal, isClear, ofPosit, ofProduct, plus, minus, negated, words, fromWords};
 ghost use Rattle.quire_words.specs.Words.{wide};
 ghost use Rattle.quire_words.proofs.Operand.{amount, brought, turned, escaped, moved};
+ghost use Rattle.quire_steps.specs.Sign.{signOff};
 use operands::Operand;
 use operands::posit_of;
 use operands::product_of;
 use p32e2::P32E2;
 use quire_words::NAR_WORD;
 use quire_words::add;
+use quire_words::complement;
 use quire_words::is_alone;
 use quire_words::negative_of;
 use quire_words::sign_of;
@@ -51,6 +55,37 @@ pub fn neg(q: [u64; 8]) -> [u64; 8]
     ensures { λ r. ⌜ r ≡ words 512 (negated (fromWords 512 q)) ⌝ }
 {
     negative_of(q)
+}
+
+// The total without its sign; that of -(2^511 - 1) is within the range. NaR is tested first, since its words are no number to take a sign off.
+pub fn qAbs(q: [u64; 8]) -> [u64; 8]
+    ensures { λ r. ⌜ r ≡ words 512 (signOff (fromWords 512 q)) ⌝ }
+{
+    if is_alone(q, NAR_WORD) {
+        return not_real();
+    }
+    size_of(q)
+}
+
+// The total of another accumulator, added.
+pub fn qAddQ(q: [u64; 8], p: [u64; 8]) -> [u64; 8]
+    ensures { λ r. ⌜ r ≡ words 512 (plus 512 (fromWords 512 q) (fromWords 512 p)) ⌝ }
+{
+    join(q, p, true)
+}
+
+// The total of another accumulator, taken.
+pub fn qSubQ(q: [u64; 8], p: [u64; 8]) -> [u64; 8]
+    ensures { λ r. ⌜ r ≡ words 512 (minus 512 (fromWords 512 q) (fromWords 512 p)) ⌝ }
+{
+    join(q, p, false)
+}
+
+// The number that eight words are, without its sign.
+pub fn size_of(q: [u64; 8]) -> [u64; 8]
+    ensures { λ r. ⌜ wide r ≡ natAbs (reading (2 ^ 511) (wide q)) ⌝ }
+{
+    if sign_of(q) == 1 { negative_of(q) } else { q }
 }
 
 pub fn is_zero(q: [u64; 8]) -> bool
@@ -91,6 +126,23 @@ fn fdp_one(q: [u64; 8], p: P32E2, added: bool) -> [u64; 8]
     ensures { λ r. ⌜ r ≡ words 512 (moved added (fromWords 512 q) (ofPosit 2 31 (p .0))) ⌝ }
 {
     step_by(q, posit_of(p), added)
+}
+
+// The same for the total of another accumulator, whose words stand at their places already: to take them is to add their complement and one.
+fn join(q: [u64; 8], p: [u64; 8], added: bool) -> [u64; 8]
+    ensures { λ r. ⌜ r ≡ words 512 (moved added (fromWords 512 q) (fromWords 512 p)) ⌝ }
+{
+    if is_alone(q, NAR_WORD) {
+        return not_real();
+    }
+    if is_alone(p, NAR_WORD) {
+        return not_real();
+    }
+    judged(
+        q,
+        (sign_of(p) == 1) == added,
+        add(q, turned_words(p, !added), !added),
+    )
 }
 
 // To take an operand is to add it with the other sign.
@@ -157,6 +209,12 @@ fn turned_word(x: u64, complemented: bool) -> u64
     ensures { λ r. ⌜ r ≡ turned complemented (2 ^ 64 - 1) x ⌝ }
 {
     if complemented { !x } else { x }
+}
+
+fn turned_words(x: [u64; 8], complemented: bool) -> [u64; 8]
+    ensures { λ r. ⌜ wide r ≡ turned complemented (2 ^ 512 - 1) (wide x) ⌝ }
+{
+    if complemented { complement(x) } else { x }
 }
 
 // The range: where the total and the operand were of one sign, and the wrapped sum is of the other, the exact total is outside. The three signs are tested

@@ -2,10 +2,7 @@
 ghost use mathlib.Core.Path.{_≡_};
 ghost use mathlib.Core.List.{[], _∷_};
 ghost use Prim.Native.Nat.{_<_, _^_};
-ghost use lib.Dec.{leb};
-ghost use lib.IntN.{natAbs};
 ghost use lib.ListN.{drop, getD};
-ghost use Rattle.posit.specs.Digits.{reading};
 ghost use Rattle.posit.specs.Rounding.{rounded};
 ghost use Rattle.posit.specs.Accumulator.{toPosit, partsOf, fromWords};
 ghost use Rattle.posit.proofs.Signs.{withSign};
@@ -13,11 +10,11 @@ ghost use Rattle.posit.specs.Pattern.{unit};
 ghost use Rattle.quire_words.specs.Words.{wide};
 ghost use Rattle.exact_terms.proofs.Wide.{FirstDigits};
 use p32e2::P32E2;
+use quire_steps::size_of;
 use quire_steps::sub_posit;
 use quire_words::NAR_WORD;
 use quire_words::any_from;
 use quire_words::is_alone;
-use quire_words::negative_of;
 use rounding::pack;
 
 pub fn to_posit(q: [u64; 8]) -> P32E2
@@ -30,7 +27,7 @@ pub fn to_posit(q: [u64; 8]) -> P32E2
         return P32E2::NAR;
     }
     let negative = NAR_WORD <= q[0];
-    P32E2(round_size(negative, size_of(q, negative)))
+    P32E2(round_size(negative, size_of(q)))
 }
 
 // A total in parts: each the rounding of what the parts before it leave.
@@ -65,14 +62,6 @@ pub fn three_posits(q: [u64; 8]) -> ThreePosits
         second,
         third,
     }
-}
-
-// The number without its sign.
-fn size_of(q: [u64; 8], negative: bool) -> [u64; 8]
-    requires { ⌜ negative ≡ leb (2 ^ 511) (wide q) ⌝ }
-    ensures { λ r. ⌜ wide r ≡ natAbs (reading (2 ^ 511) (wide q)) ⌝ }
-{
-    if negative { negative_of(q) } else { q }
 }
 
 // The number w, which is not 0, rounded, with its sign.

@@ -54,7 +54,7 @@ array-read-negative : tie.Need-array-read-negative
 array-read-negative c = search needs
 
 size-of-requires : tie.Need-size-of-requires
-size-of-requires c κs = let w = words-typed 8 (c .before .before .before .before .args .t1) (c .before .before .before .before .good .0) in sign-seen (c .before .before .before .before .args .t1) (w .0) (w .1)
+size-of-requires c κs = search needs
 
 round-size-requires : tie.Need-round-size-requires
 round-size-requires c κs =
