@@ -124,5 +124,14 @@ quire32-sub-posit-fixes = record { Post = _; says = λ M 𝓤 H A mem run κs a 
 unfoldable pub quire32-neg-fixes : FixesLent quire32.Q32E2.neg.ended (λ M 𝓤. quire32.Q32E2.neg.clauses 𝓤)
 quire32-neg-fixes = record { Post = _; says = λ M 𝓤 H A mem run κs a g x s. refl; answers = λ M 𝓤 H A mem run κs a. (tt, refl); fixes = record { answers = λ κs a. tt; one = λ κs a x y u v p p′. (refl, λ i. (record { 0 = (p ∙ sym p′) i }, u .1)) } }
 
+unfoldable pub quire32-q-abs-fixes : FixesLent quire32.Q32E2.qAbs.ended (λ M 𝓤. quire32.Q32E2.qAbs.clauses 𝓤)
+quire32-q-abs-fixes = record { Post = _; says = λ M 𝓤 H A mem run κs a g x s. refl; answers = λ M 𝓤 H A mem run κs a. (tt, refl); fixes = record { answers = λ κs a. tt; one = λ κs a x y u v p p′. (refl, λ i. (record { 0 = (p ∙ sym p′) i }, u .1)) } }
+
+unfoldable pub quire32-q-add-q-fixes : FixesLent quire32.Q32E2.qAddQ.ended (λ M 𝓤. quire32.Q32E2.qAddQ.clauses 𝓤)
+quire32-q-add-q-fixes = record { Post = _; says = λ M 𝓤 H A mem run κs a g x s. refl; answers = λ M 𝓤 H A mem run κs a. (tt, refl); fixes = record { answers = λ κs a. tt; one = λ κs a x y u v p p′. (refl, λ i. (record { 0 = (p ∙ sym p′) i }, u .1)) } }
+
+unfoldable pub quire32-q-sub-q-fixes : FixesLent quire32.Q32E2.qSubQ.ended (λ M 𝓤. quire32.Q32E2.qSubQ.clauses 𝓤)
+quire32-q-sub-q-fixes = record { Post = _; says = λ M 𝓤 H A mem run κs a g x s. refl; answers = λ M 𝓤 H A mem run κs a. (tt, refl); fixes = record { answers = λ κs a. tt; one = λ κs a x y u v p p′. (refl, λ i. (record { 0 = (p ∙ sym p′) i }, u .1)) } }
+
 unfoldable pub quire32-clear-fixes : FixesLent quire32.Q32E2.clear.ended (λ M 𝓤. quire32.Q32E2.clear.clauses 𝓤)
 quire32-clear-fixes = record { Post = _; says = λ M 𝓤 H A mem run κs a g x s. refl; answers = λ M 𝓤 H A mem run κs a. (tt, refl); fixes = record { answers = λ κs a. tt; one = λ κs a x y u v p p′. (refl, λ i. (record { 0 = (p ∙ sym p′) i }, u .1)) } }

@@ -20,6 +20,9 @@ eight n = digits (2 ^ 64) 8 n
 abbrev pub bytes : ℕ → List ℕ
 bytes n = digits (2 ^ 8) 64 n
 
--- an accumulator that is lent, with the number n in it
+-- an accumulator with the number n in it, and one that is lent
+abbrev pub held : ℕ → Q32E2
+held n = record { 0 = eight n }
+
 abbrev pub lent : ℕ → RefT Q32E2
-lent n = to (record { 0 = eight n })
+lent n = to (held n)

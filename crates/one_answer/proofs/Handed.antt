@@ -12,11 +12,12 @@ use Rattle.posit.specs.Operation.{sum, difference, product, quotient, fusedSum,
 use Rattle.posit.specs.Accumulator.{isNotReal, isClear, ofPosit, ofProduct, plus, minus, negated, toPosit, words, fromWords}
 use Rattle.desk.specs.Desk.{afterBatch}
 use Rattle.quire_words.specs.Words.{wide}
+use Rattle.quire_steps.specs.Sign.{signOff}
 use Rattle.one_answer.specs.Engines.{NoConstant, NotAlways, Never}
 use Rattle.one_answer.proofs.Engines.{constant-fails, always-fails, never}
-use Rattle.one_answer.proofs.Arguments.{bits, to, eight, bytes, lent}
+use Rattle.one_answer.proofs.Arguments.{bits, to, eight, bytes, held, lent}
 use Rattle.one_answer.proofs.Arithmetic.{p32e2-from-bits-fixes, p32e2-to-bits-fixes, p32e2-is-zero-fixes, p32e2-is-nar-fixes}
-use Rattle.one_answer.proofs.Accumulator.{quire32-init-fixes, quire32-from-bits-fixes, quire32-from-posit-fixes, quire32-to-bits-fixes, quire32-to-posit-fixes, quire32-is-zero-fixes, quire32-is-nar-fixes, quire32-neg-fixes, quire32-clear-fixes, quire32-into-two-posits-fixes, quire32-into-three-posits-fixes}
+use Rattle.one_answer.proofs.Accumulator.{quire32-init-fixes, quire32-from-bits-fixes, quire32-from-posit-fixes, quire32-to-bits-fixes, quire32-to-posit-fixes, quire32-is-zero-fixes, quire32-is-nar-fixes, quire32-neg-fixes, quire32-q-abs-fixes, quire32-clear-fixes, quire32-into-two-posits-fixes, quire32-into-three-posits-fixes}
 use Rattle.one_answer.proofs.Linked.{capi-neg-fixes, capi-add-fixes, capi-sub-fixes, capi-mul-fixes, capi-div-fixes, capi-recip-fixes, capi-sqrt-fixes, capi-mul-add-fixes, capi-mul-sub-fixes, capi-sub-product-fixes, capi-q-clear-fixes, capi-q-add-product-fixes, capi-q-sub-product-fixes, capi-q-add-posit-fixes, capi-q-sub-posit-fixes, capi-q-neg-fixes, capi-q-to-posit-fixes, capi-q-is-zero-fixes, capi-q-is-nar-fixes, capi-write-image-fixes, capi-read-image-fixes, capi-add-batch-fixes, capi-check-claim-fixes}
 
 -- ---- P32E2: the same every time, or the other question
@@ -65,6 +66,14 @@ pub quire32-neg-not-idle : Never (quire32-neg-fixes .fixes) (λ κs a r u. wide 
 unfolding everything quire32-neg-fixes
 quire32-neg-not-idle = never _ (λ κs a x u p. ap wide p) ([], tt) (lent 1, tt) tt tt
 
+pub quire32-q-abs-not-idle : Never (quire32-q-abs-fixes .fixes) (λ κs a r u. wide (u .0 .0)) (λ κs a. wide (a .0 .now .0))
+unfolding everything signOff quire32-q-abs-fixes
+quire32-q-abs-not-idle = never _ (λ κs a x u p. ap wide p) ([], tt) (lent (2 ^ 512 - 1), tt) tt tt
+
+pub quire32-q-abs-not-neg : Never (quire32-q-abs-fixes .fixes) (λ κs a r u. wide (u .0 .0)) (λ κs a. wide (words 512 (negated (fromWords 512 (a .0 .now .0)))))
+unfolding everything signOff quire32-q-abs-fixes
+quire32-q-abs-not-neg = never _ (λ κs a x u p. ap wide p) ([], tt) (lent 1, tt) tt tt
+
 pub quire32-clear-not-idle : Never (quire32-clear-fixes .fixes) (λ κs a r u. wide (u .0 .0)) (λ κs a. wide (a .0 .now .0))
 unfolding everything quire32-clear-fixes
 quire32-clear-not-idle = never _ (λ κs a x u p. ap wide p) ([], tt) (lent 1, tt) tt tt
@@ -72,11 +81,11 @@ quire32-clear-not-idle = never _ (λ κs a x u p. ap wide p) ([], tt) (lent 1, t
 -- the last part is zero every time
 pub quire32-into-two-posits-not-one : Never quire32-into-two-posits-fixes (λ κs a r u. r .second .0) (λ κs a. 0)
 unfolding everything
-quire32-into-two-posits-not-one = never _ (λ κs a x u p. ap (λ (l : List ℕ). getD l 1 0) p) tt (record { 0 = eight (2 ^ 240 + 1) }, tt) tt tt
+quire32-into-two-posits-not-one = never _ (λ κs a x u p. ap (λ (l : List ℕ). getD l 1 0) p) tt (held (2 ^ 240 + 1), tt) tt tt
 
 pub quire32-into-three-posits-not-two : Never quire32-into-three-posits-fixes (λ κs a r u. r .third .0) (λ κs a. 0)
 unfolding everything
-quire32-into-three-posits-not-two = never _ (λ κs a x u p. ap (λ (l : List ℕ). getD l 2 0) p) tt (record { 0 = eight (2 ^ 240 + 1) }, tt) tt tt
+quire32-into-three-posits-not-two = never _ (λ κs a x u p. ap (λ (l : List ℕ). getD l 2 0) p) tt (held (2 ^ 240 + 1), tt) tt tt
 
 -- ---- what C and Rust link: posits
 pub capi-neg-not-idle : Never capi-neg-fixes (λ κs a r u. r) (λ κs a. a .0)

@@ -18,9 +18,9 @@ use Rattle.desk.specs.declared.batch.BatchAnswer.the-variants as batch
 use Rattle.desk.specs.declared.claim.ClaimAnswer.the-variants as claim
 use Rattle.one_answer.specs.Engines.{NoConstant, NotAlways, Never, NotAsking, NotAskingLent}
 use Rattle.one_answer.proofs.Engines.{differ, constant-fails, always-fails, never, asking-fails, asking-lent-fails}
-use Rattle.one_answer.proofs.Arguments.{bits, to, eight, bytes, lent}
+use Rattle.one_answer.proofs.Arguments.{bits, to, eight, bytes, held, lent}
 use Rattle.one_answer.proofs.Arithmetic.{p32e2-neg-fixes, p32e2-add-fixes, p32e2-sub-fixes, p32e2-mul-fixes, p32e2-div-fixes, p32e2-recip-fixes, p32e2-sqrt-fixes, p32e2-mul-add-fixes, p32e2-mul-sub-fixes, p32e2-sub-product-fixes}
-use Rattle.one_answer.proofs.Accumulator.{quire-steps-add-product-fixes, quire-steps-sub-product-fixes, quire-steps-add-posit-fixes, quire-steps-sub-posit-fixes, quire-steps-neg-fixes, quire-steps-q-add-q-fixes, quire-steps-q-sub-q-fixes, quire-steps-from-posit-fixes, quire-totals-to-posit-fixes, quire32-add-product-fixes, quire32-sub-product-fixes, quire32-add-posit-fixes, quire32-sub-posit-fixes}
+use Rattle.one_answer.proofs.Accumulator.{quire-steps-add-product-fixes, quire-steps-sub-product-fixes, quire-steps-add-posit-fixes, quire-steps-sub-posit-fixes, quire-steps-neg-fixes, quire-steps-q-add-q-fixes, quire-steps-q-sub-q-fixes, quire-steps-from-posit-fixes, quire-totals-to-posit-fixes, quire32-add-product-fixes, quire32-sub-product-fixes, quire32-add-posit-fixes, quire32-sub-posit-fixes, quire32-q-add-q-fixes, quire32-q-sub-q-fixes}
 use Rattle.one_answer.proofs.Desk.{desk-image-of-fixes, desk-write-image-fixes, desk-read-image-fixes, desk-add-batch-fixes, desk-check-claim-fixes, desk-write-number-fixes, desk-read-number-fixes, desk-batch-number-fixes, desk-claim-number-fixes, desk-lent-write-image-fixes, desk-lent-read-image-fixes, desk-lent-add-batch-fixes}
 use Rattle.one_answer.proofs.Linked.{capi-neg-fixes}
 
@@ -172,6 +172,14 @@ quire32-add-posit-not-idle = always-fails _ (λ κs a x u p. ap wide p) ([], tt)
 pub quire32-sub-posit-not-idle : NotAlways (quire32-sub-posit-fixes .fixes) (λ κs a r u. wide (u .0 .0)) (λ κs a. T (ltb 0 (wide (a .0 .now .0)))) (λ κs a. wide (a .0 .now .0))
 unfolding everything quire32-sub-posit-fixes
 quire32-sub-posit-not-idle = always-fails _ (λ κs a x u p. ap wide p) ([], tt) (lent 1, (bits 1, tt)) tt tt tt
+
+pub quire32-q-add-q-not-idle : NotAlways (quire32-q-add-q-fixes .fixes) (λ κs a r u. wide (u .0 .0)) (λ κs a. T (ltb 0 (wide (a .0 .now .0)))) (λ κs a. wide (a .0 .now .0))
+unfolding everything quire32-q-add-q-fixes
+quire32-q-add-q-not-idle = always-fails _ (λ κs a x u p. ap wide p) ([], tt) (lent 1, (held 1, tt)) tt tt tt
+
+pub quire32-q-sub-q-not-idle : NotAlways (quire32-q-sub-q-fixes .fixes) (λ κs a r u. wide (u .0 .0)) (λ κs a. T (ltb 0 (wide (a .0 .now .0)))) (λ κs a. wide (a .0 .now .0))
+unfolding everything quire32-q-sub-q-fixes
+quire32-q-sub-q-not-idle = always-fails _ (λ κs a x u p. ap wide p) ([], tt) (lent 1, (held 1, tt)) tt tt tt
 
 -- ---- a batch that adds nothing, or the first pair only
 pub desk-add-batch-not-idle : Never desk-add-batch-fixes (λ κs a r u. wide (r .words)) (λ κs a. wide (a .0))

@@ -103,8 +103,11 @@ pub quire32-asks-nothing :
     × AnswersLent quire32.Q32E2.add_posit.ended (λ M 𝓤. quire32.Q32E2.add_posit.clauses 𝓤)
     × AnswersLent quire32.Q32E2.sub_posit.ended (λ M 𝓤. quire32.Q32E2.sub_posit.clauses 𝓤)
     × AnswersLent quire32.Q32E2.neg.ended (λ M 𝓤. quire32.Q32E2.neg.clauses 𝓤)
+    × AnswersLent quire32.Q32E2.qAbs.ended (λ M 𝓤. quire32.Q32E2.qAbs.clauses 𝓤)
+    × AnswersLent quire32.Q32E2.qAddQ.ended (λ M 𝓤. quire32.Q32E2.qAddQ.clauses 𝓤)
+    × AnswersLent quire32.Q32E2.qSubQ.ended (λ M 𝓤. quire32.Q32E2.qSubQ.clauses 𝓤)
     × AnswersLent quire32.Q32E2.clear.ended (λ M 𝓤. quire32.Q32E2.clear.clauses 𝓤)
-quire32-asks-nothing = (λ κs a. tt, λ κs a. tt, λ κs a. tt, λ κs a. tt, λ κs a. tt, λ M 𝓤 H A mem run κs a. (tt, refl), λ M 𝓤 H A mem run κs a. (tt, refl), λ M 𝓤 H A mem run κs a. (tt, refl), λ M 𝓤 H A mem run κs a. (tt, refl), λ M 𝓤 H A mem run κs a. (tt, refl), λ M 𝓤 H A mem run κs a. (tt, refl), λ M 𝓤 H A mem run κs a. (tt, refl), λ M 𝓤 H A mem run κs a. (tt, refl), λ M 𝓤 H A mem run κs a. (tt, refl), λ M 𝓤 H A mem run κs a. (tt, refl))
+quire32-asks-nothing = (λ κs a. tt, λ κs a. tt, λ κs a. tt, λ κs a. tt, λ κs a. tt, λ M 𝓤 H A mem run κs a. (tt, refl), λ M 𝓤 H A mem run κs a. (tt, refl), λ M 𝓤 H A mem run κs a. (tt, refl), λ M 𝓤 H A mem run κs a. (tt, refl), λ M 𝓤 H A mem run κs a. (tt, refl), λ M 𝓤 H A mem run κs a. (tt, refl), λ M 𝓤 H A mem run κs a. (tt, refl), λ M 𝓤 H A mem run κs a. (tt, refl), λ M 𝓤 H A mem run κs a. (tt, refl), λ M 𝓤 H A mem run κs a. (tt, refl), λ M 𝓤 H A mem run κs a. (tt, refl), λ M 𝓤 H A mem run κs a. (tt, refl), λ M 𝓤 H A mem run κs a. (tt, refl))
 
 pub desk-asks-nothing :
     Answers desk.image.image_of.ended desk.image.image_of.Reads.Pre

@@ -3,6 +3,7 @@ ghost use mathlib.Core.Path.{_≡_};
 ghost use mathlib.Core.List.{[], _∷_};
 ghost use Prim.Native.Nat.{_^_};
 ghost use Rattle.posit.specs.Accumulator.{notReal, clear, isNotReal, isClear, ofPosit, ofProduct, plus, minus, negated, toPosit, partsOf, words, fromWords};
+ghost use Rattle.quire_steps.specs.Sign.{signOff};
 use p32e2::P32E2;
 use quire_totals::ThreePosits;
 use quire_totals::TwoPosits;
@@ -91,6 +92,25 @@ impl Q32E2 {
         self.0 = quire_steps::neg(self.0);
     }
 
+    pub fn qAbs(&mut self)
+        ensures { λ _. ⌜ now (self .exit) .0 ≡ words 512 (signOff (fromWords 512 (now (self .entry) .0))) ⌝ }
+    {
+        self.0 = quire_steps::qAbs(self.0);
+    }
+
+    // The other accumulator comes by value, as a posit does, so that it may be this one: `q.qAddQ(q)`.
+    pub fn qAddQ(&mut self, p: Q32E2)
+        ensures { λ _. ⌜ now (self .exit) .0 ≡ words 512 (plus 512 (fromWords 512 (now (self .entry) .0)) (fromWords 512 (p .0))) ⌝ }
+    {
+        self.0 = sum_with(self.0, p);
+    }
+
+    pub fn qSubQ(&mut self, p: Q32E2)
+        ensures { λ _. ⌜ now (self .exit) .0 ≡ words 512 (minus 512 (fromWords 512 (now (self .entry) .0)) (fromWords 512 (p .0))) ⌝ }
+    {
+        self.0 = difference_with(self.0, p);
+    }
+
     pub fn clear(&mut self)
         ensures { λ _. ⌜ now (self .exit) .0 ≡ words 512 clear ⌝ }
     {
@@ -110,6 +130,22 @@ impl Q32E2 {
         let words = self.0;
         three_posits(words)
     }
+}
+
+// The words and those of another accumulator, added.
+fn sum_with(q: [u64; 8], p: Q32E2) -> [u64; 8]
+    ensures { λ r. ⌜ r ≡ words 512 (plus 512 (fromWords 512 q) (fromWords 512 (p .0))) ⌝ }
+{
+    let other = p.0;
+    quire_steps::qAddQ(q, other)
+}
+
+// The same, taken.
+fn difference_with(q: [u64; 8], p: Q32E2) -> [u64; 8]
+    ensures { λ r. ⌜ r ≡ words 512 (minus 512 (fromWords 512 q) (fromWords 512 (p .0))) ⌝ }
+{
+    let other = p.0;
+    quire_steps::qSubQ(q, other)
 }
 
 // The constants' words, in the order of their declarations. Nothing calls this: its contract ties the constants to the definitions.
