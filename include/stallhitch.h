@@ -56,6 +56,16 @@ uint32_t stallhitch_q32e2_to_posit(const uint64_t q[8]);                    /* t
 bool stallhitch_q32e2_is_zero(const uint64_t q[8]);                         /* all eight words read (4.2) */
 bool stallhitch_q32e2_is_nar(const uint64_t q[8]);                          /* all eight words read (4.2) */
 
+/* The total of another accumulator, added or taken, and the total without its sign. NaR on either
+   side, or a new total outside +-(2^511 - 1), makes NaR. The words of NaR are not read as a number,
+   and every other total has its size within the range.
+
+   q is lent to be changed, so p must not overlap it, nor be q itself. To add an accumulator to
+   itself, copy its eight words first and pass the copy as p. */
+void stallhitch_q32e2_qAddQ(uint64_t q[8], const uint64_t p[8]);            /* q += p (4.13) */
+void stallhitch_q32e2_qSubQ(uint64_t q[8], const uint64_t p[8]);            /* q -= p (4.13) */
+void stallhitch_q32e2_qAbs(uint64_t q[8]);                                  /* q = |q|; NaR stays (4.14) */
+
 /* ---- The desk: images, batches and claims (4.10 to 4.12) ----
 
    The answer is the number of the refusal (5), or 0 for none:

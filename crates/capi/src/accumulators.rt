@@ -1,6 +1,7 @@
 // Accumulators: eight words behind a reference, word 0 the most significant. A step changes them in place.
 ghost use mathlib.Core.Path.{_≡_};
 ghost use Rattle.posit.specs.Accumulator.{clear, isNotReal, isClear, ofPosit, ofProduct, plus, minus, negated, toPosit, words, fromWords};
+ghost use Rattle.quire_steps.specs.Sign.{signOff};
 use p32e2::P32E2;
 use quire_steps::add_posit;
 use quire_steps::add_product;
@@ -8,6 +9,9 @@ use quire_steps::cleared;
 use quire_steps::is_nar;
 use quire_steps::is_zero;
 use quire_steps::neg;
+use quire_steps::qAbs;
+use quire_steps::qAddQ;
+use quire_steps::qSubQ;
 use quire_steps::sub_posit;
 use quire_steps::sub_product;
 use quire_totals::to_posit;
@@ -57,6 +61,32 @@ pub extern "C" fn stallhitch_q32e2_neg(q: &mut [u64; 8])
 {
     let w = *q;
     *q = neg(w);
+}
+
+#[no_mangle]
+pub extern "C" fn stallhitch_q32e2_qAbs(q: &mut [u64; 8])
+    ensures { λ _. ⌜ now (q .exit) ≡ words 512 (signOff (fromWords 512 (now (q .entry)))) ⌝ }
+{
+    let w = *q;
+    *q = qAbs(w);
+}
+
+#[no_mangle]
+pub extern "C" fn stallhitch_q32e2_qAddQ(q: &mut [u64; 8], p: &[u64; 8])
+    ensures { λ _. ⌜ now (q .exit) ≡ words 512 (plus 512 (fromWords 512 (now (q .entry))) (fromWords 512 (now (p .entry)))) ⌝ }
+{
+    let w = *q;
+    let other = *p;
+    *q = qAddQ(w, other);
+}
+
+#[no_mangle]
+pub extern "C" fn stallhitch_q32e2_qSubQ(q: &mut [u64; 8], p: &[u64; 8])
+    ensures { λ _. ⌜ now (q .exit) ≡ words 512 (minus 512 (fromWords 512 (now (q .entry))) (fromWords 512 (now (p .entry)))) ⌝ }
+{
+    let w = *q;
+    let other = *p;
+    *q = qSubQ(w, other);
 }
 
 #[no_mangle]

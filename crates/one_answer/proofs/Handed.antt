@@ -1,7 +1,7 @@
 -- Wrong engines for functions that hand over to another function: each says what a neighbour of that function would, or does nothing. None meets the contract; the arguments on which it fails are computed by the definitions.
 use mathlib.Core.Path.{_≡_, refl, ap}
 use mathlib.Core.List.{List, [], _∷_}
-use Prim.Native.Nat.{ℕ, _+_, _-_, _^_}
+use Prim.Native.Nat.{ℕ, _+_, _-_, _%_, _^_}
 use mir.Val.{boolByte}
 use lib.Dec.{eqb}
 use lib.ListN.{length, getD, take}
@@ -18,7 +18,7 @@ use Rattle.one_answer.proofs.Engines.{constant-fails, always-fails, nev
 use Rattle.one_answer.proofs.Arguments.{bits, to, eight, bytes, held, lent}
 use Rattle.one_answer.proofs.Arithmetic.{p32e2-from-bits-fixes, p32e2-to-bits-fixes, p32e2-is-zero-fixes, p32e2-is-nar-fixes}
 use Rattle.one_answer.proofs.Accumulator.{quire32-init-fixes, quire32-from-bits-fixes, quire32-from-posit-fixes, quire32-to-bits-fixes, quire32-to-posit-fixes, quire32-is-zero-fixes, quire32-is-nar-fixes, quire32-neg-fixes, quire32-q-abs-fixes, quire32-clear-fixes, quire32-into-two-posits-fixes, quire32-into-three-posits-fixes}
-use Rattle.one_answer.proofs.Linked.{capi-neg-fixes, capi-add-fixes, capi-sub-fixes, capi-mul-fixes, capi-div-fixes, capi-recip-fixes, capi-sqrt-fixes, capi-mul-add-fixes, capi-mul-sub-fixes, capi-sub-product-fixes, capi-q-clear-fixes, capi-q-add-product-fixes, capi-q-sub-product-fixes, capi-q-add-posit-fixes, capi-q-sub-posit-fixes, capi-q-neg-fixes, capi-q-to-posit-fixes, capi-q-is-zero-fixes, capi-q-is-nar-fixes, capi-write-image-fixes, capi-read-image-fixes, capi-add-batch-fixes, capi-check-claim-fixes}
+use Rattle.one_answer.proofs.Linked.{capi-neg-fixes, capi-add-fixes, capi-sub-fixes, capi-mul-fixes, capi-div-fixes, capi-recip-fixes, capi-sqrt-fixes, capi-mul-add-fixes, capi-mul-sub-fixes, capi-sub-product-fixes, capi-q-clear-fixes, capi-q-add-product-fixes, capi-q-sub-product-fixes, capi-q-add-posit-fixes, capi-q-sub-posit-fixes, capi-q-neg-fixes, capi-q-abs-fixes, capi-q-add-q-fixes, capi-q-sub-q-fixes, capi-q-to-posit-fixes, capi-q-is-zero-fixes, capi-q-is-nar-fixes, capi-write-image-fixes, capi-read-image-fixes, capi-add-batch-fixes, capi-check-claim-fixes}
 
 -- ---- P32E2: the same every time, or the other question
 pub p32e2-from-bits-not-constant : NoConstant p32e2-from-bits-fixes (λ κs a r u. r .0)
@@ -153,6 +153,27 @@ capi-q-sub-posit-not-add = never _ (λ κs a x u p. ap wide p) ([], tt) (to (eig
 pub capi-q-neg-not-idle : Never capi-q-neg-fixes (λ κs a r u. wide (u .0)) (λ κs a. wide (a .0 .now))
 unfolding everything
 capi-q-neg-not-idle = never _ (λ κs a x u p. ap wide p) ([], tt) (to (eight 1), tt) tt tt
+
+pub capi-q-abs-not-idle : Never capi-q-abs-fixes (λ κs a r u. wide (u .0)) (λ κs a. wide (a .0 .now))
+unfolding everything signOff
+capi-q-abs-not-idle = never _ (λ κs a x u p. ap wide p) ([], tt) (to (eight (2 ^ 512 - 1)), tt) tt tt
+
+pub capi-q-abs-not-neg : Never capi-q-abs-fixes (λ κs a r u. wide (u .0)) (λ κs a. wide (words 512 (negated (fromWords 512 (a .0 .now)))))
+unfolding everything signOff
+capi-q-abs-not-neg = never _ (λ κs a x u p. ap wide p) ([], tt) (to (eight 1), tt) tt tt
+
+pub capi-q-add-q-not-sub : Never capi-q-add-q-fixes (λ κs a r u. wide (u .0)) (λ κs a. wide (words 512 (minus 512 (fromWords 512 (a .0 .now)) (fromWords 512 (a .1 .0 .now)))))
+unfolding everything
+capi-q-add-q-not-sub = never _ (λ κs a x u p. ap wide p) ([], ([], tt)) (to (eight 0), (to (eight 1), tt)) tt tt
+
+pub capi-q-sub-q-not-add : Never capi-q-sub-q-fixes (λ κs a r u. wide (u .0)) (λ κs a. wide (words 512 (plus 512 (fromWords 512 (a .0 .now)) (fromWords 512 (a .1 .0 .now)))))
+unfolding everything
+capi-q-sub-q-not-add = never _ (λ κs a x u p. ap wide p) ([], ([], tt)) (to (eight 0), (to (eight 1), tt)) tt tt
+
+-- the range forgotten: the largest total, joined with itself, would be -2
+pub capi-q-add-q-not-wrapped : Never capi-q-add-q-fixes (λ κs a r u. wide (u .0)) (λ κs a. (wide (a .0 .now) + wide (a .1 .0 .now)) % 2 ^ 512)
+unfolding everything
+capi-q-add-q-not-wrapped = never _ (λ κs a x u p. ap wide p) ([], ([], tt)) (to (eight (2 ^ 511 - 1)), (to (eight (2 ^ 511 - 1)), tt)) tt tt
 
 pub capi-q-to-posit-not-opposite : Never capi-q-to-posit-fixes (λ κs a r u. r) (λ κs a. toPosit 2 31 (negated (fromWords 512 (a .0 .now))))
 unfolding everything

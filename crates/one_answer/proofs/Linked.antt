@@ -51,6 +51,15 @@ capi-q-sub-posit-fixes = record { answers = λ κs a. tt; one = λ κs a x y u v
 pub capi-q-neg-fixes : Fixes capi.accumulators.stallhitch_q32e2_neg.ended capi.accumulators.stallhitch_q32e2_neg.Reads.Pre capi.accumulators.stallhitch_q32e2_neg.Reads.Post
 capi-q-neg-fixes = record { answers = λ κs a. tt; one = λ κs a x y u v p p′. (refl, λ i. ((p ∙ sym p′) i, u .1)) }
 
+pub capi-q-abs-fixes : Fixes capi.accumulators.stallhitch_q32e2_qAbs.ended capi.accumulators.stallhitch_q32e2_qAbs.Reads.Pre capi.accumulators.stallhitch_q32e2_qAbs.Reads.Post
+capi-q-abs-fixes = record { answers = λ κs a. tt; one = λ κs a x y u v p p′. (refl, λ i. ((p ∙ sym p′) i, u .1)) }
+
+pub capi-q-add-q-fixes : Fixes capi.accumulators.stallhitch_q32e2_qAddQ.ended capi.accumulators.stallhitch_q32e2_qAddQ.Reads.Pre capi.accumulators.stallhitch_q32e2_qAddQ.Reads.Post
+capi-q-add-q-fixes = record { answers = λ κs a. tt; one = λ κs a x y u v p p′. (refl, λ i. ((p ∙ sym p′) i, u .1)) }
+
+pub capi-q-sub-q-fixes : Fixes capi.accumulators.stallhitch_q32e2_qSubQ.ended capi.accumulators.stallhitch_q32e2_qSubQ.Reads.Pre capi.accumulators.stallhitch_q32e2_qSubQ.Reads.Post
+capi-q-sub-q-fixes = record { answers = λ κs a. tt; one = λ κs a x y u v p p′. (refl, λ i. ((p ∙ sym p′) i, u .1)) }
+
 pub capi-q-to-posit-fixes : Fixes capi.accumulators.stallhitch_q32e2_to_posit.ended capi.accumulators.stallhitch_q32e2_to_posit.Reads.Pre capi.accumulators.stallhitch_q32e2_to_posit.Reads.Post
 capi-q-to-posit-fixes = record { answers = λ κs a. tt; one = λ κs a x y u v p p′. (p ∙ sym p′, refl) }
 

@@ -13,19 +13,20 @@ use Rattle.desk.specs.Answers.{writeNumber, readNumber, batchNumber, claimNumbe
 use Rattle.desk.proofs as desk
 use Rattle.capi.proofs as capi
 use Rattle.promises.specs.Contract.{Untouched}
-use Rattle.promises.specs.History.{Operand, Direction}
-use Rattle.promises.specs.Ways.{Way, lent, forC, EightWords, Beginning, Begun, Moved, Negated, SaysZero, SaysNar}
+use Rattle.quire_steps.specs.Sign.{signOff}
+use Rattle.promises.specs.History.{Direction}
+use Rattle.promises.specs.Ways.{Way, lent, forC, EightWords, Beginning, Begun, Handed, Moved, Negated, SignDropped, SaysZero, SaysNar}
 use Rattle.promises.specs.Operations.{Operation, operands, Patterns, By, Offered, Done, OfPosit, ToPosit}
 use Rattle.promises.specs.Asked.{Writing, Reading, Adding, Claiming}
 use Rattle.promises.specs.Rows.{Due, JustDue, writeRows, readRows, batchRows, claimRows}
 use Rattle.promises.proofs.Typed.{words-typed, words-back, written-typed}
-use Rattle.promises.proofs.Said.{brought, shifted, begun-met, moved-met, negated-met, zero-met, nar-met, writes-says, writes-met, reads-says, reads-met, adds-says, adds-met, claims-says, claims-met}
+use Rattle.promises.proofs.Said.{brought, shifted, begun-met, moved-met, negated-met, dropped-met, zero-met, nar-met, writes-says, writes-met, reads-says, reads-met, adds-says, adds-met, claims-says, claims-met}
 use Rattle.promises.proofs.Told.{answerOf, done-met, done-offered, made-met, total-met}
 use Rattle.promises.proofs.Rounded.{told-pattern, total-pattern}
 use Rattle.promises.proofs.Refusals.{just-due, buffer-due, bytes-due, batch-due, claim-due, unwritten, rest-unwritten, unread, unadded, write-answer, read-answer, batch-answer, claim-answer}
 
 -- ---- "every 32-bit pattern, accumulator and slice gets an answer": there is one that meets the contract and has its type, by every way in, for the operations, for an accumulator
--- that is made, begun, moved, negated, rounded and asked, and for the desk
+-- that is made, begun, moved by a posit, a product or another accumulator, negated, freed of its sign, rounded and asked, and for the desk
 
 pub patterns-get-an-answer : (by : By) (f : Operation) → Offered by f → Patterns (operands f) → (r : ℕ) × (r < 2 ^ 32) × Done by f r
 patterns-get-an-answer by f o k = (answerOf f, told-pattern f k, done-met by f o)
@@ -39,11 +40,14 @@ posits-make-accumulators way o p = (words 512 (ofPosit 2 31 p), words-typed _, m
 pub accumulators-begin : (from : Beginning) → (q : List ℕ) × EightWords q × Begun from q
 accumulators-begin from = (words 512 clear, words-typed clear, begun-met from _ refl)
 
-pub accumulators-move : (way : Way) (d : Direction) (x : Operand) (q : List ℕ) → (r : List ℕ) × EightWords r × Moved way d x q r
+pub accumulators-move : (way : Way) (d : Direction) (x : Handed) (q : List ℕ) → (r : List ℕ) × EightWords r × Moved way d x q r
 accumulators-move way d x q = (words 512 (shifted d (fromWords 512 q) (brought x)), words-typed _, moved-met way d x q _ refl)
 
 pub accumulators-negate : (way : Way) (q : List ℕ) → (r : List ℕ) × EightWords r × Negated way q r
 accumulators-negate way q = (words 512 (negated (fromWords 512 q)), words-typed _, negated-met way q _ refl)
+
+pub accumulators-drop-their-sign : (way : Way) (q : List ℕ) → (r : List ℕ) × EightWords r × SignDropped way q r
+accumulators-drop-their-sign way q = (words 512 (signOff (fromWords 512 q)), words-typed _, dropped-met way q _ refl)
 
 pub accumulators-round : (way : Way) (q : List ℕ) → (r : ℕ) × (r < 2 ^ 32) × ToPosit way q r
 accumulators-round way q = (toPosit 2 31 (fromWords 512 q), total-pattern (fromWords 512 q), total-met way q)
@@ -104,7 +108,7 @@ refused-reading-stays way q bs n r t a o = let s = reads-says way q bs n r a in 
 pub refused-batch-stays : (way : Way) (q xs ys : List ℕ) (n : ℕ) (r : List ℕ) → EightWords q → Adding way q xs ys n r → n ≢ 0 → r ≡ q
 refused-batch-stays way q xs ys n r t a o = let s = adds-says way q xs ys n r a in s .1 ∙ ap (words 512) (unadded (fromWords 512 q) xs ys (λ z. o (s .0 ∙ z))) ∙ words-back q t
 
--- what is lent to be read, the lists, the claim and the bytes, and the accumulator whose image is written, is at exit as it was
+-- what is lent to be read, the lists, the claim and the bytes, the accumulator whose image is written and the one that is added or taken, is at exit as it was
 pub what-is-read-stays :
     Untouched desk.batch.add_batch.ended (λ κs s. s) (λ κs a. a)
     × Untouched desk.claim.check_claim.ended (λ κs s. s) (λ κs a. a)
@@ -116,4 +120,6 @@ pub what-is-read-stays :
     × Untouched capi.claims.stallhitch_read_image.ended (λ κs s. s .1) (λ κs a. a .1)
     × Untouched desk.lent.write_image.ended (λ κs s. s .0) (λ κs a. a .0)
     × Untouched capi.claims.stallhitch_write_image.ended (λ κs s. s .0) (λ κs a. a .0)
-what-is-read-stays = (λ κs a u. refl, λ κs a u. refl, λ κs a u. refl, λ κs a u. refl, λ κs a u. refl, λ κs a u. refl, λ κs a u. refl, λ κs a u. refl, λ κs a u. refl, λ κs a u. refl)
+    × Untouched capi.accumulators.stallhitch_q32e2_qAddQ.ended (λ κs s. s .1) (λ κs a. a .1)
+    × Untouched capi.accumulators.stallhitch_q32e2_qSubQ.ended (λ κs s. s .1) (λ κs a. a .1)
+what-is-read-stays = (λ κs a u. refl, λ κs a u. refl, λ κs a u. refl, λ κs a u. refl, λ κs a u. refl, λ κs a u. refl, λ κs a u. refl, λ κs a u. refl, λ κs a u. refl, λ κs a u. refl, λ κs a u. refl, λ κs a u. refl)

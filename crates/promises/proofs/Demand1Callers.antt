@@ -144,10 +144,13 @@ pub capi-accumulators-asks-nothing :
     × Answers capi.accumulators.stallhitch_q32e2_add_posit.ended capi.accumulators.stallhitch_q32e2_add_posit.Reads.Pre
     × Answers capi.accumulators.stallhitch_q32e2_sub_posit.ended capi.accumulators.stallhitch_q32e2_sub_posit.Reads.Pre
     × Answers capi.accumulators.stallhitch_q32e2_neg.ended capi.accumulators.stallhitch_q32e2_neg.Reads.Pre
+    × Answers capi.accumulators.stallhitch_q32e2_qAbs.ended capi.accumulators.stallhitch_q32e2_qAbs.Reads.Pre
+    × Answers capi.accumulators.stallhitch_q32e2_qAddQ.ended capi.accumulators.stallhitch_q32e2_qAddQ.Reads.Pre
+    × Answers capi.accumulators.stallhitch_q32e2_qSubQ.ended capi.accumulators.stallhitch_q32e2_qSubQ.Reads.Pre
     × Answers capi.accumulators.stallhitch_q32e2_to_posit.ended capi.accumulators.stallhitch_q32e2_to_posit.Reads.Pre
     × Answers capi.accumulators.stallhitch_q32e2_is_zero.ended capi.accumulators.stallhitch_q32e2_is_zero.Reads.Pre
     × Answers capi.accumulators.stallhitch_q32e2_is_nar.ended capi.accumulators.stallhitch_q32e2_is_nar.Reads.Pre
-capi-accumulators-asks-nothing = (λ κs a. tt, λ κs a. tt, λ κs a. tt, λ κs a. tt, λ κs a. tt, λ κs a. tt, λ κs a. tt, λ κs a. tt, λ κs a. tt)
+capi-accumulators-asks-nothing = (λ κs a. tt, λ κs a. tt, λ κs a. tt, λ κs a. tt, λ κs a. tt, λ κs a. tt, λ κs a. tt, λ κs a. tt, λ κs a. tt, λ κs a. tt, λ κs a. tt, λ κs a. tt)
 
 pub capi-claims-asks-nothing :
     Answers capi.claims.stallhitch_write_image.ended capi.claims.stallhitch_write_image.Reads.Pre

@@ -7,7 +7,7 @@ use mathlib.Core.List.{List}
 use Prim.Native.Nat.{ℕ, _^_, _≤_, _<_}
 use native.Mathlib.Omega.{arith}
 use lib.Dec.{lit<, lit≤}
-use lib.IntN.{ℤ, pos}
+use lib.IntN.{ℤ}
 use Rattle.posit.specs.Pattern.{nar, opposite, least, unit}
 use Rattle.posit.specs.Exact.{Exact, Sound}
 use Rattle.posit.specs.Rounding.{Rounds, round}
@@ -16,12 +16,12 @@ use Rattle.posit.specs.Accumulator.{notReal, total, clear, ofPosit, toPosit, fr
 use Rattle.posit.proofs.Rounding.{round-meets, round-only, round-one}
 use Rattle.posit.proofs.Value.{opposite-is}
 use Rattle.posit.proofs.Operation.{own}
-use Rattle.promises.specs.History.{Step, totalOf, OfPatterns, Keeps, Number}
+use Rattle.promises.specs.History.{History, totalOf, OfPatterns, Keeps, Number}
 use Rattle.promises.specs.Outside.{Leaves}
-use Rattle.promises.specs.Run.{Route, Runs}
+use Rattle.promises.specs.Run.{Routes, Runs}
 use Rattle.promises.specs.Standard.{Result, nought, some, Proper, result, Gives, zeroGiven, sizeGiven, oppositeGiven, Answered}
 use Rattle.promises.specs.Operations.{Operation, operands, Patterns, exactly, Impossible, By, Done, OfPosit, ToPosit}
-use Rattle.promises.specs.Ways.{Way, Beginning, Begun, SaysZero, SaysNar}
+use Rattle.promises.specs.Ways.{Way, SaysZero, SaysNar}
 use Rattle.promises.proofs.Given.{rounds-positive, as-given, rounded-given, result-proper}
 use Rattle.promises.proofs.Said.{zero-says, nar-says}
 use Rattle.promises.proofs.Told.{done-told, made-told, total-told}
@@ -82,12 +82,12 @@ totals-proper t = result-proper t
 
 -- ---- "the accumulator holds the exact sum or NaR"
 
--- the words z that a history leads to, from a clear accumulator: it keeps both premises or leaves them at a first place
-pub holds-exact-sum-or-nar : (from : Beginning) (by : List Route) (h : List Step) (q z : List ℕ) → OfPatterns h → Begun from q → Runs by q h z
-    → (Keeps h × (fromWords 512 z ≡ total (totalOf h))) ⊎ (Leaves (pos 0) h × (fromWords 512 z ≡ notReal))
-holds-exact-sum-or-nar from by h q z p begun runs =
-    let held : fromWords 512 z ≡ after h clear = run-leads from by h q z begun runs in
-    ⊎-elim (λ k. inl (k, held ∙ exact-after h (pos 0) (k .0) (k .1))) (λ l. inr (l, held ∙ leaves-nar h (pos 0) l)) (keeps-or-leaves h (pos 0) (lit< tt) p)
+-- the words z that a history leads to: it keeps both premises or leaves them at a first place
+pub holds-exact-sum-or-nar :
+    (h : History) (by : Routes h) (z : List ℕ) → OfPatterns h → Runs h by z → (Keeps h × (fromWords 512 z ≡ total (totalOf h))) ⊎ (Leaves h × (fromWords 512 z ≡ notReal))
+holds-exact-sum-or-nar h by z p runs =
+    let held : fromWords 512 z ≡ after h = run-leads h by z runs in
+    ⊎-elim (λ k. inl (k, held ∙ exact-after h (k .0) (k .1))) (λ l. inr (l, held ∙ leaves-nar h l)) (keeps-or-leaves h p)
 
 -- the words say that they are zero exactly when their state is, and that they are NaR exactly when it is
 pub zero-said-exactly : (way : Way) (q : List ℕ) (b : Bool) → SaysZero way q b → (b ≡ true) ↔ (fromWords 512 q ≡ clear)

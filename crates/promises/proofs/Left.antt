@@ -2,18 +2,19 @@
 -- (`keeps-or-leaves`), and none does both (`never-both`).
 use mathlib.Core.Path.{_≡_, refl, sym, ap, subst, _∙_}
 use mathlib.Core.Logic.{_⊎_, inl, inr, ⊎-elim}
-use mathlib.Core.List.{List, [], _∷_}
 use Prim.Native.Nat.{ℕ, _^_, _<_}
 use native.Mathlib.Decide.{decLt, ℕ-discrete}
 use borrow.Author.Tests.{eq-eqb, ne-eqb}
-use lib.IntN.{ℤ, negℤ, natAbs}
+use lib.Dec.{lit<}
+use lib.IntN.{ℤ, natAbs}
 use Rattle.posit.specs.Pattern.{nar}
 use Rattle.posit.specs.Accumulator.{State, notReal, total, ofPosit, ofProduct, plus, minus, negated}
-use Rattle.promises.specs.History.{Operand, aPosit, aProduct, Direction, added, taken, Step, move, negate, turn, worth, directed, moves, OfStep, Fits, OfPatterns, Numbers, WithoutNar, Within, StaysFrom}
-use Rattle.promises.specs.Outside.{NarIn, Leaves, narOperand, outOfRange, later}
-use Rattle.promises.proofs.Said.{brought, shifted}
-use Rattle.promises.proofs.Tracked.{stepped, after}
-use Rattle.promises.proofs.Totals.{brought-total, shifted-total, outside, abs-negated, exact-step}
+use Rattle.quire_steps.specs.Sign.{signOff}
+use Rattle.promises.specs.History.{History, begun, _then_, Step, move, negate, dropSign, turn, Operand, aPosit, aProduct, aHistory, Direction, added, taken, totalOf, moves, worth, directed, InStep, InOperand, AnyPattern, AnyHistory, OfPatterns, Number, Within, Stays, Keeps, Kept}
+use Rattle.promises.specs.Outside.{Leaves, LeavesBy, NarIn}
+use Rattle.promises.proofs.Said.{shifted}
+use Rattle.promises.proofs.Tracked.{after, stepped, led}
+use Rattle.promises.proofs.Totals.{shifted-total, outside, abs-negated, exact-after, exact-operand}
 
 -- ---- NaR from there on
 
@@ -28,73 +29,111 @@ shifted-by-nar added t = refl
 shifted-by-nar taken t = refl
 
 -- no step leads out of NaR
-nar-stays : (h : List Step) → after h notReal ≡ notReal
-unfolding stepped negated
-nar-stays [] = refl
-nar-stays (move d x ∷ h) = ap (after h) (shifted-from-nar d (brought x)) ∙ nar-stays h
-nar-stays (negate ∷ h) = nar-stays h
-nar-stays (turn ∷ h) = nar-stays h
+nar-stays : (s : Step) → stepped s notReal ≡ notReal
+unfolding after negated signOff
+nar-stays (move d x) = shifted-from-nar d (led x)
+nar-stays negate = refl
+nar-stays dropSign = refl
+nar-stays turn = refl
 
-nar-brought : (x : Operand) → NarIn x → brought x ≡ notReal
-unfolding brought ofPosit ofProduct
-nar-brought (aPosit p) e = rw (eq-eqb p (nar 31) e)
-nar-brought (aProduct a b) o = ⊎-elim (λ e. rw (eq-eqb a (nar 31) e)) (λ e. second (ℕ-discrete a (nar 31)) e) o
+product-with-nar : (a b : ℕ) → (a ≡ nar 31) ⊎ (b ≡ nar 31) → ofProduct 2 31 a b ≡ notReal
+unfolding ofProduct
+product-with-nar a b o = ⊎-elim (λ e. rw (eq-eqb a (nar 31) e)) (λ e. second (ℕ-discrete a (nar 31)) e) o
   where
-    second : Dec (a ≡ nar 31) → b ≡ nar 31 → brought (aProduct a b) ≡ notReal
+    second : Dec (a ≡ nar 31) → b ≡ nar 31 → ofProduct 2 31 a b ≡ notReal
     second (yes d) e = rw (eq-eqb a (nar 31) d)
     second (no d) e = rw (ne-eqb a (nar 31) d, eq-eqb b (nar 31) e)
 
-pub leaves-nar : (h : List Step) (t : ℤ) → Leaves t h → after h (total t) ≡ notReal
-unfolding stepped moves
-leaves-nar (move d x ∷ h) t (narOperand _ _ _ _ n) = ap (after h) (ap (shifted d (total t)) (nar-brought x n) ∙ shifted-by-nar d t) ∙ nar-stays h
-leaves-nar (move d x ∷ h) t (outOfRange _ _ _ _ n o) =
-    ap (after h) (ap (shifted d (total t)) (brought-total x n) ∙ shifted-total d t (worth x) ∙ outside (directed d t (worth x)) o) ∙ nar-stays h
-leaves-nar (s ∷ h) t (later _ _ _ n w l) = ap (after h) (exact-step s t n w) ∙ leaves-nar h (moves s t) l
+mutual
+  unfolding after totalOf ofPosit
+
+  pub leaves-nar : (h : History) → Leaves h → after h ≡ notReal
+  leaves-nar begun l = absurd l
+  leaves-nar (h then s) (inl l) = ap (stepped s) (leaves-nar h l) ∙ nar-stays s
+  leaves-nar (h then s) (inr (k, l)) = ap (stepped s) (exact-after h (k .0) (k .1)) ∙ nar-by s (totalOf h) l
+
+  nar-by : (s : Step) (t : ℤ) → LeavesBy s t → stepped s (total t) ≡ notReal
+  nar-by (move d x) t (inl n) = ap (shifted d (total t)) (nar-led x n) ∙ shifted-by-nar d t
+  nar-by (move d x) t (inr (k, o)) = ap (shifted d (total t)) (exact-operand x k) ∙ shifted-total d t (worth x) ∙ outside (directed d t (worth x)) o
+  nar-by negate t l = absurd l
+  nar-by dropSign t l = absurd l
+  nar-by turn t l = absurd l
+
+  nar-led : (x : Operand) → NarIn x → led x ≡ notReal
+  nar-led (aPosit p) e = rw (eq-eqb p (nar 31) e)
+  nar-led (aProduct a b) o = product-with-nar a b o
+  nar-led (aHistory k) l = leaves-nar k l
 
 -- ---- kept, or left at a first place
 
-nar-or-number : (x : Operand) → Fits x → NarIn x ⊎ Numbers x
-nar-or-number (aPosit p) l = go (ℕ-discrete p (nar 31))
+abbrev Short : ℕ → Type 0
+Short p = p < 2 ^ 32
+
+abbrev InRange : History → Type 0
+InRange h = natAbs (totalOf h) < 2 ^ 511
+
+-- a step from t keeps the premises
+abbrev KeptBy : Step → ℤ → Type 0
+KeptBy s t = InStep Number AnyHistory s × InStep AnyPattern InRange s × Within (moves s t)
+
+pub within : (h : History) → Stays h → Within (totalOf h)
+unfolding totalOf
+within begun k = lit< tt
+within (h then s) k = k .2
+
+pattern-or-nar : (p : ℕ) → Short p → Number p ⊎ (p ≡ nar 31)
+pattern-or-nar p l = go (ℕ-discrete p (nar 31))
   where
-    go : Dec (p ≡ nar 31) → NarIn (aPosit p) ⊎ Numbers (aPosit p)
-    go (yes e) = inl e
-    go (no n) = inr (l, n)
-nar-or-number (aProduct a b) l = go (ℕ-discrete a (nar 31)) (ℕ-discrete b (nar 31))
-  where
-    go : Dec (a ≡ nar 31) → Dec (b ≡ nar 31) → NarIn (aProduct a b) ⊎ Numbers (aProduct a b)
-    go (yes e) _ = inl (inl e)
-    go (no n) (yes e) = inl (inr e)
-    go (no n) (no m) = inr ((l .0, n), (l .1, m))
+    go : Dec (p ≡ nar 31) → Number p ⊎ (p ≡ nar 31)
+    go (yes e) = inr e
+    go (no n) = inl (l, n)
 
-not-both-here : (x : Operand) → NarIn x → Numbers x → ⊥
-not-both-here (aPosit p) e n = n .1 e
-not-both-here (aProduct a b) o n = ⊎-elim (n .0 .1) (n .1 .1) o
+-- the premises up to h, and those of the step behind it
+onward : (h : History) (s : Step) → Keeps h ⊎ Leaves h → (Within (totalOf h) → KeptBy s (totalOf h) ⊎ LeavesBy s (totalOf h)) → Keeps (h then s) ⊎ Leaves (h then s)
+unfolding totalOf
+onward h s (inr l) rest = inr (inl l)
+onward h s (inl (n, k)) rest = ⊎-elim (λ (m, i, w). inl ((n, m, tt), (k, i, w))) (λ l. inr (inr ((n, k), l))) (rest (within h k))
 
-abbrev Kept : ℤ → List Step → Type 0
-Kept t h = WithoutNar h × StaysFrom t h
+moved-or-left : (d : Direction) (x : Operand) (t : ℤ) → Kept x ⊎ NarIn x → Dec (Within (directed d t (worth x))) → KeptBy (move d x) t ⊎ LeavesBy (move d x) t
+unfolding totalOf
+moved-or-left d x t (inr e) w = inr (inl e)
+moved-or-left d x t (inl k) (yes w) = inl (k .0, k .1, w)
+moved-or-left d x t (inl k) (no o) = inr (inr (k, o))
 
--- one step that keeps the premises, and the rest
-onward : (s : Step) (h : List Step) (t : ℤ) → OfStep Numbers s → Within (moves s t) → Kept (moves s t) h ⊎ Leaves (moves s t) h → Kept t (s ∷ h) ⊎ Leaves t (s ∷ h)
-onward s h t n w (inl (m, k)) = inl ((n, m), (w, k))
-onward s h t n w (inr l) = inr (later t s h n w l)
+mutual
+  unfolding totalOf
 
-pub keeps-or-leaves : (h : List Step) (t : ℤ) → Within t → OfPatterns h → Kept t h ⊎ Leaves t h
-unfolding moves
-keeps-or-leaves [] t w p = inl (tt, tt)
-keeps-or-leaves (move d x ∷ h) t w p =
-    operand (nar-or-number x (p .0)) (decLt (natAbs (directed d t (worth x))) (2 ^ 511)) (λ k. keeps-or-leaves h (directed d t (worth x)) k (p .1))
-  where
-    operand : NarIn x ⊎ Numbers x → Dec (Within (directed d t (worth x))) → (Within (directed d t (worth x)) → Kept (moves (move d x) t) h ⊎ Leaves (moves (move d x) t) h)
-        → Kept t (move d x ∷ h) ⊎ Leaves t (move d x ∷ h)
-    operand (inl e) _ rest = inr (narOperand t d x h e)
-    operand (inr n) (yes k) rest = onward (move d x) h t n k (rest k)
-    operand (inr n) (no o) rest = inr (outOfRange t d x h n o)
-keeps-or-leaves (negate ∷ h) t w p =
-    let k : Within (negℤ t) = subst (λ (n : ℕ). n < 2 ^ 511) (sym (abs-negated t)) w in
-    onward negate h t tt k (keeps-or-leaves h (negℤ t) k (p .1))
-keeps-or-leaves (turn ∷ h) t w p = onward turn h t tt w (keeps-or-leaves h t w (p .1))
+  pub keeps-or-leaves : (h : History) → OfPatterns h → Keeps h ⊎ Leaves h
+  keeps-or-leaves begun p = inl (tt, tt)
+  keeps-or-leaves (h then s) (p, o, _) = onward h s (keeps-or-leaves h p) (λ w. step-or-left s (totalOf h) w o)
 
-pub never-both : (h : List Step) (t : ℤ) → Kept t h → Leaves t h → ⊥
-never-both (move d x ∷ h) t (n, k) (narOperand _ _ _ _ e) = not-both-here x e (n .0)
-never-both (move d x ∷ h) t (n, k) (outOfRange _ _ _ _ _ o) = o (k .0)
-never-both (s ∷ h) t (n, k) (later _ _ _ _ _ l) = never-both h (moves s t) (n .1, k .1) l
+  step-or-left : (s : Step) (t : ℤ) → Within t → InStep Short AnyHistory s → KeptBy s t ⊎ LeavesBy s t
+  step-or-left (move d x) t w p = moved-or-left d x t (operand-or-nar x p) (decLt (natAbs (directed d t (worth x))) (2 ^ 511))
+  step-or-left negate t w p = inl (tt, tt, subst (λ (n : ℕ). n < 2 ^ 511) (sym (abs-negated t)) w)
+  step-or-left dropSign t w p = inl (tt, tt, w)
+  step-or-left turn t w p = inl (tt, tt, w)
+
+  operand-or-nar : (x : Operand) → InOperand Short AnyHistory x → Kept x ⊎ NarIn x
+  operand-or-nar (aPosit p) l = ⊎-elim (λ n. inl (n, tt)) (λ e. inr e) (pattern-or-nar p l)
+  operand-or-nar (aProduct a b) l = ⊎-elim (λ n. ⊎-elim (λ m. inl ((n, m), (tt, tt))) (λ e. inr (inr e)) (pattern-or-nar b (l .1))) (λ e. inr (inl e)) (pattern-or-nar a (l .0))
+  operand-or-nar (aHistory k) l = ⊎-elim (λ n. inl n) (λ l. inr l) (keeps-or-leaves k l)
+
+mutual
+  unfolding totalOf
+
+  pub never-both : (h : History) → Keeps h → Leaves h → ⊥
+  never-both begun k l = l
+  never-both (h then s) (n, k) (inl l) = never-both h (n .0, k .0) l
+  never-both (h then s) (n, k) (inr (_, l)) = never-by s (totalOf h) (n .1, k .1, k .2) l
+
+  never-by : (s : Step) (t : ℤ) → KeptBy s t → LeavesBy s t → ⊥
+  never-by (move d x) t (n, k, w) (inl e) = never-nar x (n, k) e
+  never-by (move d x) t (n, k, w) (inr (_, o)) = o w
+  never-by negate t k l = l
+  never-by dropSign t k l = l
+  never-by turn t k l = l
+
+  never-nar : (x : Operand) → Kept x → NarIn x → ⊥
+  never-nar (aPosit p) (n, _) e = n .1 e
+  never-nar (aProduct a b) (n, _) o = ⊎-elim (n .0 .1) (n .1 .1) o
+  never-nar (aHistory k) kept l = never-both k kept l

@@ -13,5 +13,7 @@ pub mod Rounded
 pub mod Typed
 pub mod Tracked
 pub mod Totals
+pub mod Counted
 pub mod Reach
+pub mod Boxes
 pub mod Left

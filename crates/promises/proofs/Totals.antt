@@ -1,18 +1,15 @@
--- The state that a history leads to is its exact total, as long as no operand is NaR and the total stays within the range (`exact-after`); and what an operand may
--- move the total by is at most 2 ^ 480, so that 2 ^ 31 - 1 operands never lead out of the range (`stays-short`).
+-- The state that a history leads to is its exact total, as long as no operand is NaR and the total stays within the range (`exact-after`); and a posit or a product is at
+-- most 2 ^ 480 in size (`posit-at-most`, `product-at-most`).
 use mathlib.Core.Path.{_≡_, refl, sym, ap, ap₂, subst, subst₂, _∙_}
 use mathlib.Core.Logic.{_≢_, _↔_}
 use mathlib.Core.Bool.{Bool, true, false, cond, not, xor, false≢true}
-use mathlib.Core.List.{List, [], _∷_}
 use Prim.Native.Nat.{ℕ, zero, suc, _+_, _-_, _*_, _^_, _≤_, _<_, zero-le}
-use native.Mathlib.Nat.{le-trans, le-refl, lt-of-le-of-lt, mul-le-mul-left, mul-le-mul-right, mul-lt-mul-of-pos-right}
+use native.Mathlib.Nat.{le-trans, le-refl, mul-le-mul-left, mul-le-mul-right}
 use native.Mathlib.Decide.{decLt, ℕ-discrete}
 use native.Mathlib.Omega.{arith}
 use borrow.Author.Tests.{eq-eqb, ne-eqb, lt-ltb, le-ltb}
 use lib.Dec.{T, ltb, lit<, lit≤, eqb→eq}
 use lib.IntN.{ℤ, pos, negsuc, negℤ, natAbs, _+ℤ_, _*ℤ_, +ℤ-comm}
-use lib.ListN.{length}
-use lib.Pow.{pow-pos}
 use Rattle.posit.specs.Pattern.{nar, isNegative, unsigned, size, value, least, unit}
 use Rattle.posit.specs.Operation.{exact, exactProduct}
 use Rattle.posit.specs.Accumulator.{State, notReal, total, clear, isClear, isNotReal, image, fromImage, kept, ofPosit, ofProduct, plus, minus, negated}
@@ -21,9 +18,10 @@ use Rattle.posit.proofs.State.{Held}
 use Rattle.posit.proofs.Signs.{withSign, by-sign, product-signs, sum-same, sum-unlike}
 use Rattle.posit.proofs.Unsigned.{unsigned-positive, value-real}
 use Rattle.quire_steps.proofs.Range.{size-of}
-use Rattle.promises.specs.History.{Operand, aPosit, aProduct, Direction, added, taken, Step, move, negate, turn, worth, directed, moves, totalFrom, totalOf, OfStep, Number, Numbers, WithoutNar, Within, StaysFrom, Keeps, plain, operandsIn}
-use Rattle.promises.proofs.Said.{brought, shifted}
-use Rattle.promises.proofs.Tracked.{stepped, after, after-held, image-back, clear-held}
+use Rattle.quire_steps.specs.Sign.{signOff}
+use Rattle.promises.specs.History.{History, begun, _then_, Step, move, negate, dropSign, turn, Operand, aPosit, aProduct, aHistory, Direction, added, taken, totalOf, moves, worth, directed, InStep, AnyPattern, AnyHistory, Number, WithoutNar, Within, Stays, Keeps, Kept}
+use Rattle.promises.proofs.Said.{shifted}
+use Rattle.promises.proofs.Tracked.{after, stepped, led, after-held, image-back}
 
 -- ---- the exact total
 
@@ -35,19 +33,13 @@ product-total : (a b : ℕ) → a ≢ nar 31 → b ≢ nar 31 → ofProduct 2 31
 unfolding ofProduct
 product-total a b n m = rw (ne-eqb a (nar 31) n, ne-eqb b (nar 31) m)
 
--- what an operand brings that is not NaR
-pub brought-total : (x : Operand) → Numbers x → brought x ≡ total (worth x)
-unfolding brought worth
-brought-total (aPosit p) n = posit-total p (n .1)
-brought-total (aProduct a b) n = product-total a b (n .0 .1) (n .1 .1)
-
 -- a state that is moved by a total: the exact new total, where it is kept
 pub shifted-total : (d : Direction) (t x : ℤ) → shifted d (total t) (total x) ≡ kept 512 (directed d t x)
 unfolding plus minus negated
 shifted-total added t x = refl
 shifted-total taken t x = refl
 
-inside : (t : ℤ) → Within t → kept 512 t ≡ total t
+pub inside : (t : ℤ) → Within t → kept 512 t ≡ total t
 inside t w = rw (lt-ltb (natAbs t) (2 ^ 511) w)
 
 -- a total outside the range is not kept
@@ -57,15 +49,24 @@ outside t o = above (2 ^ 511) (natAbs t) o
     above : (H n : ℕ) → (n < H → ⊥) → cond (ltb n H) (total t) notReal ≡ notReal
     above H n o = rw (le-ltb n H (omega arith))
 
-pub exact-step : (s : Step) (t : ℤ) → OfStep Numbers s → Within (moves s t) → stepped s (total t) ≡ total (moves s t)
-unfolding stepped moves negated
-exact-step (move d x) t n w = ap (shifted d (total t)) (brought-total x n) ∙ shifted-total d t (worth x) ∙ inside (directed d t (worth x)) w
-exact-step negate t n w = refl
-exact-step turn t n w = refl
+mutual
+  unfolding after totalOf negated signOff
 
-pub exact-after : (h : List Step) (t : ℤ) → WithoutNar h → StaysFrom t h → after h (total t) ≡ total (totalFrom t h)
-exact-after [] t n k = refl
-exact-after (s ∷ h) t n k = ap (after h) (exact-step s t (n .0) (k .0)) ∙ exact-after h (moves s t) (n .1) (k .1)
+  pub exact-after : (h : History) → WithoutNar h → Stays h → after h ≡ total (totalOf h)
+  exact-after begun n k = refl
+  exact-after (h then s) (n, m, _) (k, l, w) = ap (stepped s) (exact-after h n k) ∙ exact-step s (totalOf h) m l w
+
+  pub exact-step : (s : Step) (t : ℤ) → InStep Number AnyHistory s → InStep AnyPattern (λ g. Within (totalOf g)) s → Within (moves s t) → stepped s (total t) ≡ total (moves s t)
+  exact-step (move d x) t n k w = ap (shifted d (total t)) (exact-operand x (n, k)) ∙ shifted-total d t (worth x) ∙ inside (directed d t (worth x)) w
+  exact-step negate t n k w = refl
+  exact-step dropSign t n k w = refl
+  exact-step turn t n k w = refl
+
+  -- what an operand brings that keeps the premises
+  pub exact-operand : (x : Operand) → Kept x → led x ≡ total (worth x)
+  exact-operand (aPosit p) (n, _) = posit-total p (n .1)
+  exact-operand (aProduct a b) (n, _) = product-total a b (n .0 .1) (n .1 .1)
+  exact-operand (aHistory k) (n, s) = exact-after k n s
 
 -- ---- sizes
 
@@ -78,7 +79,7 @@ abs-negated (negsuc n) = refl
 at-most : {x y : ℤ} {m n : ℕ} → x ≡ y → natAbs y ≡ m → m ≤ n → natAbs x ≤ n
 at-most {n = n} e f h = subst (λ (k : ℕ). k ≤ n) (sym (ap natAbs e ∙ f)) h
 
-abs-sum : (x y : ℤ) → natAbs (x +ℤ y) ≤ natAbs x + natAbs y
+pub abs-sum : (x y : ℤ) → natAbs (x +ℤ y) ≤ natAbs x + natAbs y
 abs-sum x y = by-sign (λ x. natAbs (x +ℤ y) ≤ natAbs x + natAbs y) (λ s a. by-sign (λ y. natAbs (withSign s a +ℤ y) ≤ natAbs (withSign s a) + natAbs y) (λ t b. subst₂ (λ (m n : ℕ). natAbs (withSign s a +ℤ withSign t b) ≤ m + n) (sym (size-of s a)) (sym (size-of t b)) (go s t a b)) y) x
   where
     less : (s : Bool) (a b : ℕ) → b ≤ a → natAbs (withSign s a +ℤ withSign (not s) b) ≤ a + b
@@ -98,7 +99,7 @@ abs-sum x y = by-sign (λ x. natAbs (x +ℤ y) ≤ natAbs x + natAbs y) (λ s a.
 abs-product : (x y : ℤ) → natAbs (x *ℤ y) ≡ natAbs x * natAbs y
 abs-product x y = by-sign (λ x. natAbs (x *ℤ y) ≡ natAbs x * natAbs y) (λ s a. by-sign (λ y. natAbs (withSign s a *ℤ y) ≡ natAbs (withSign s a) * natAbs y) (λ t b. ap natAbs (product-signs s t a b) ∙ size-of (xor s t) (a * b) ∙ sym (ap₂ _*_ (size-of s a) (size-of t b))) y) x
 
--- ---- what a step may move the total by
+-- ---- what a posit or a product may move the total by
 
 value-at-most : (u p : ℕ) → 120 ≤ u → Number p → natAbs (value 2 31 u p) ≤ 2 ^ (u + 120)
 unfolding value
@@ -115,46 +116,11 @@ pub posit-at-most : (p : ℕ) → Number p → natAbs (exact 2 31 p) ≤ 2 ^ 480
 unfolding exact
 posit-at-most p n = le-trans (value-at-most (unit 2 31) p (lit≤ tt) n) (lit≤ tt)
 
-product-at-most : (a b : ℕ) → Number a → Number b → natAbs (exactProduct 2 31 a b) ≤ 2 ^ 480
+pub product-at-most : (a b : ℕ) → Number a → Number b → natAbs (exactProduct 2 31 a b) ≤ 2 ^ 480
 unfolding exactProduct
 product-at-most a b n m =
     rw (abs-product (value 2 31 (least 2 31) a) (value 2 31 (least 2 31) b))
     (le-trans (mul-le-mul-left (natAbs (value 2 31 (least 2 31) a)) (value-at-most (least 2 31) b (lit≤ tt) m)) (mul-le-mul-right (2 ^ unit 2 31) (value-at-most (least 2 31) a (lit≤ tt) n)))
-
-worth-at-most : (x : Operand) → Numbers x → natAbs (worth x) ≤ 2 ^ 480
-unfolding worth
-worth-at-most (aPosit p) n = posit-at-most p n
-worth-at-most (aProduct a b) n = product-at-most a b (n .0) (n .1)
-
-directed-at-most : (M : ℕ) (d : Direction) (t x : ℤ) → natAbs x ≤ M → natAbs (directed d t x) ≤ natAbs t + M
-directed-at-most M added t x h = omega (arith, abs-sum t x)
-directed-at-most M taken t x h = omega (arith, abs-sum t (negℤ x), abs-negated x)
-
--- after c + 1 moves of at most M each
-next-move : (M c x y : ℕ) → x ≤ c * M → y ≤ x + M → y ≤ suc c * M
-next-move M c x y h k = omega arith
-
-in-range : (M c x : ℕ) → 0 < M → x ≤ c * M → c < 2 ^ 31 → x < 2 ^ 31 * M
-in-range M c x p h k = lt-of-le-of-lt h (mul-lt-mul-of-pos-right k p)
-
--- c operands have been moved by; a negation or a turn leaves the size as it was
-pub stays-short : (h : List Step) (t : ℤ) (c : ℕ) → WithoutNar h → natAbs t ≤ c * 2 ^ 480 → c + operandsIn h < 2 ^ 31 → StaysFrom t h
-unfolding moves
-stays-short [] t c n k l = tt
-stays-short (move d x ∷ h) t c n k l =
-    let moved = next-move (2 ^ 480) c (natAbs t) (natAbs (directed d t (worth x))) k (directed-at-most (2 ^ 480) d t (worth x) (worth-at-most x (n .0))) in
-    (in-range (2 ^ 480) (suc c) (natAbs (directed d t (worth x))) (pow-pos 480) moved (omega arith), stays-short h (directed d t (worth x)) (suc c) (n .1) moved (omega arith))
-stays-short (negate ∷ h) t c n k l =
-    let same : natAbs (negℤ t) ≤ c * 2 ^ 480 = rw (abs-negated t) k in
-    (in-range (2 ^ 480) c (natAbs (negℤ t)) (pow-pos 480) same (omega arith), stays-short h (negℤ t) c (n .1) same l)
-stays-short (turn ∷ h) t c n k l = (in-range (2 ^ 480) c (natAbs t) (pow-pos 480) k (omega arith), stays-short h t c (n .1) k l)
-
--- negations are counted as steps, and turns are not
-pub operands-at-most : (h : List Step) → operandsIn h ≤ length (plain h)
-operands-at-most [] = lit≤ tt
-operands-at-most (move d x ∷ h) = omega (arith, operands-at-most h)
-operands-at-most (negate ∷ h) = omega (arith, operands-at-most h)
-operands-at-most (turn ∷ h) = operands-at-most h
 
 -- ---- a total, of its state and of its image
 
@@ -173,8 +139,8 @@ total-one e = ap value-of e
     value-of (total t) = t
 
 -- what is read of the image of a kept history's total is that total
-pub image-total : (h : List Step) → Keeps h → fromImage 512 (image 512 (total (totalOf h))) ≡ total (totalOf h)
-image-total h (n, s) = image-back (total (totalOf h)) (subst (Held 512) (exact-after h (pos 0) n s) (after-held h clear clear-held))
+pub image-total : (h : History) → Keeps h → fromImage 512 (image 512 (total (totalOf h))) ≡ total (totalOf h)
+image-total h (n, s) = image-back (total (totalOf h)) (subst (Held 512) (exact-after h n s) (after-held h))
 
 -- ---- the two questions
 

@@ -1,4 +1,4 @@
--- The ways in. The accumulator is begun clear, moved, negated and asked by value, by a method of `Q32E2` that is lent it, or by the function for C: in each row stands the contract
+-- The ways in. The accumulator is begun clear, moved, negated, freed of its sign and asked by value, by a method of `Q32E2` that is lent it, or by the function for C: in each row stands the contract
 -- that the check makes of the function, met by the words before and after. What is lent stands at some place, for some lifetime.
 use mathlib.Core.Path.{_≡_, refl}
 use mathlib.Core.Bool.{Bool}
@@ -16,7 +16,10 @@ use Rattle.quire_steps.proofs.add_posit.Reads as add-posit
 use Rattle.quire_steps.proofs.sub_posit.Reads as sub-posit
 use Rattle.quire_steps.proofs.add_product.Reads as add-product
 use Rattle.quire_steps.proofs.sub_product.Reads as sub-product
+use Rattle.quire_steps.proofs.qAddQ.Reads as add-other
+use Rattle.quire_steps.proofs.qSubQ.Reads as sub-other
 use Rattle.quire_steps.proofs.neg.Reads as neg
+use Rattle.quire_steps.proofs.qAbs.Reads as size
 use Rattle.quire_steps.proofs.is_zero.Reads as is-zero
 use Rattle.quire_steps.proofs.is_nar.Reads as is-nar
 use Rattle.quire32.proofs.Q32E2.init.Reads as init
@@ -26,7 +29,10 @@ use Rattle.quire32.proofs.Q32E2.add_posit as of-add-posit
 use Rattle.quire32.proofs.Q32E2.sub_posit as of-sub-posit
 use Rattle.quire32.proofs.Q32E2.add_product as of-add-product
 use Rattle.quire32.proofs.Q32E2.sub_product as of-sub-product
+use Rattle.quire32.proofs.Q32E2.qAddQ as of-add-other
+use Rattle.quire32.proofs.Q32E2.qSubQ as of-sub-other
 use Rattle.quire32.proofs.Q32E2.neg as of-neg
+use Rattle.quire32.proofs.Q32E2.qAbs as of-size
 use Rattle.quire32.proofs.Q32E2.is_zero as of-is-zero
 use Rattle.quire32.proofs.Q32E2.is_nar as of-is-nar
 use Rattle.capi.proofs.accumulators.stallhitch_q32e2_clear.Reads as c-clear
@@ -34,11 +40,14 @@ use Rattle.capi.proofs.accumulators.stallhitch_q32e2_add_posit.Reads as c-add-p
 use Rattle.capi.proofs.accumulators.stallhitch_q32e2_sub_posit.Reads as c-sub-posit
 use Rattle.capi.proofs.accumulators.stallhitch_q32e2_add_product.Reads as c-add-product
 use Rattle.capi.proofs.accumulators.stallhitch_q32e2_sub_product.Reads as c-sub-product
+use Rattle.capi.proofs.accumulators.stallhitch_q32e2_qAddQ.Reads as c-add-other
+use Rattle.capi.proofs.accumulators.stallhitch_q32e2_qSubQ.Reads as c-sub-other
 use Rattle.capi.proofs.accumulators.stallhitch_q32e2_neg.Reads as c-neg
+use Rattle.capi.proofs.accumulators.stallhitch_q32e2_qAbs.Reads as c-size
 use Rattle.capi.proofs.accumulators.stallhitch_q32e2_is_zero.Reads as c-is-zero
 use Rattle.capi.proofs.accumulators.stallhitch_q32e2_is_nar.Reads as c-is-nar
 use Rattle.promises.specs.Contract.{Plain}
-use Rattle.promises.specs.History.{Operand, aPosit, aProduct, Direction, added, taken}
+use Rattle.promises.specs.History.{Direction, added, taken}
 
 pub data Way : Type 0 where
   byValue : Way
@@ -91,8 +100,17 @@ addProductLent = record { Post = _; says = λ M 𝓤 H A mem run κs a g x s. re
 abbrev pub subProductLent : Plain of-sub-product.ended (λ M 𝓤. of-sub-product.clauses 𝓤)
 subProductLent = record { Post = _; says = λ M 𝓤 H A mem run κs a g x s. refl }
 
+abbrev pub qAddQLent : Plain of-add-other.ended (λ M 𝓤. of-add-other.clauses 𝓤)
+qAddQLent = record { Post = _; says = λ M 𝓤 H A mem run κs a g x s. refl }
+
+abbrev pub qSubQLent : Plain of-sub-other.ended (λ M 𝓤. of-sub-other.clauses 𝓤)
+qSubQLent = record { Post = _; says = λ M 𝓤 H A mem run κs a g x s. refl }
+
 abbrev pub negLent : Plain of-neg.ended (λ M 𝓤. of-neg.clauses 𝓤)
 negLent = record { Post = _; says = λ M 𝓤 H A mem run κs a g x s. refl }
+
+abbrev pub qAbsLent : Plain of-size.ended (λ M 𝓤. of-size.clauses 𝓤)
+qAbsLent = record { Post = _; says = λ M 𝓤 H A mem run κs a g x s. refl }
 
 abbrev pub isZeroLent : Plain of-is-zero.ended (λ M 𝓤. of-is-zero.clauses 𝓤)
 isZeroLent = record { Post = _; says = λ M 𝓤 H A mem run κs a g x s. refl }
@@ -118,21 +136,35 @@ Begun (byClearForC before) q = (κs : Lfts 1) × (m : Place) × c-clear.Post κs
 
 -- ---- an operand is added or taken: from the words q to the words r
 
-abbrev pub Moved : Way → Direction → Operand → List ℕ → List ℕ → Type 0
-Moved byValue added (aPosit p) q r = add-posit.Post tt (q, (posit p, tt)) r (q, (posit p, tt))
-Moved byValue taken (aPosit p) q r = sub-posit.Post tt (q, (posit p, tt)) r (q, (posit p, tt))
-Moved byValue added (aProduct a b) q r = add-product.Post tt (q, (posit a, (posit b, tt))) r (q, (posit a, (posit b, tt)))
-Moved byValue taken (aProduct a b) q r = sub-product.Post tt (q, (posit a, (posit b, tt))) r (q, (posit a, (posit b, tt)))
-Moved lent added (aPosit p) q r = (κs : Lfts 1) × (m : Place) × addPositLent .Post κs (at m (accumulator q), (posit p, tt)) tt (at m (accumulator r), (posit p, tt))
-Moved lent taken (aPosit p) q r = (κs : Lfts 1) × (m : Place) × subPositLent .Post κs (at m (accumulator q), (posit p, tt)) tt (at m (accumulator r), (posit p, tt))
-Moved lent added (aProduct a b) q r =
+-- what a step is handed: one pattern, two, or the words of another accumulator
+pub data Handed : Type 0 where
+  aPattern : ℕ → Handed
+  aPair : ℕ → ℕ → Handed
+  anAccumulator : List ℕ → Handed
+
+abbrev pub Moved : Way → Direction → Handed → List ℕ → List ℕ → Type 0
+Moved byValue added (aPattern p) q r = add-posit.Post tt (q, (posit p, tt)) r (q, (posit p, tt))
+Moved byValue taken (aPattern p) q r = sub-posit.Post tt (q, (posit p, tt)) r (q, (posit p, tt))
+Moved byValue added (aPair a b) q r = add-product.Post tt (q, (posit a, (posit b, tt))) r (q, (posit a, (posit b, tt)))
+Moved byValue taken (aPair a b) q r = sub-product.Post tt (q, (posit a, (posit b, tt))) r (q, (posit a, (posit b, tt)))
+Moved byValue added (anAccumulator p) q r = add-other.Post tt (q, (p, tt)) r (q, (p, tt))
+Moved byValue taken (anAccumulator p) q r = sub-other.Post tt (q, (p, tt)) r (q, (p, tt))
+Moved lent added (aPattern p) q r = (κs : Lfts 1) × (m : Place) × addPositLent .Post κs (at m (accumulator q), (posit p, tt)) tt (at m (accumulator r), (posit p, tt))
+Moved lent taken (aPattern p) q r = (κs : Lfts 1) × (m : Place) × subPositLent .Post κs (at m (accumulator q), (posit p, tt)) tt (at m (accumulator r), (posit p, tt))
+Moved lent added (aPair a b) q r =
     (κs : Lfts 1) × (m : Place) × addProductLent .Post κs (at m (accumulator q), (posit a, (posit b, tt))) tt (at m (accumulator r), (posit a, (posit b, tt)))
-Moved lent taken (aProduct a b) q r =
+Moved lent taken (aPair a b) q r =
     (κs : Lfts 1) × (m : Place) × subProductLent .Post κs (at m (accumulator q), (posit a, (posit b, tt))) tt (at m (accumulator r), (posit a, (posit b, tt)))
-Moved forC added (aPosit p) q r = (κs : Lfts 1) × (m : Place) × c-add-posit.Post κs (at m q, (p, tt)) tt (at m r, (p, tt))
-Moved forC taken (aPosit p) q r = (κs : Lfts 1) × (m : Place) × c-sub-posit.Post κs (at m q, (p, tt)) tt (at m r, (p, tt))
-Moved forC added (aProduct a b) q r = (κs : Lfts 1) × (m : Place) × c-add-product.Post κs (at m q, (a, (b, tt))) tt (at m r, (a, (b, tt)))
-Moved forC taken (aProduct a b) q r = (κs : Lfts 1) × (m : Place) × c-sub-product.Post κs (at m q, (a, (b, tt))) tt (at m r, (a, (b, tt)))
+Moved lent added (anAccumulator p) q r =
+    (κs : Lfts 1) × (m : Place) × qAddQLent .Post κs (at m (accumulator q), (accumulator p, tt)) tt (at m (accumulator r), (accumulator p, tt))
+Moved lent taken (anAccumulator p) q r =
+    (κs : Lfts 1) × (m : Place) × qSubQLent .Post κs (at m (accumulator q), (accumulator p, tt)) tt (at m (accumulator r), (accumulator p, tt))
+Moved forC added (aPattern p) q r = (κs : Lfts 1) × (m : Place) × c-add-posit.Post κs (at m q, (p, tt)) tt (at m r, (p, tt))
+Moved forC taken (aPattern p) q r = (κs : Lfts 1) × (m : Place) × c-sub-posit.Post κs (at m q, (p, tt)) tt (at m r, (p, tt))
+Moved forC added (aPair a b) q r = (κs : Lfts 1) × (m : Place) × c-add-product.Post κs (at m q, (a, (b, tt))) tt (at m r, (a, (b, tt)))
+Moved forC taken (aPair a b) q r = (κs : Lfts 1) × (m : Place) × c-sub-product.Post κs (at m q, (a, (b, tt))) tt (at m r, (a, (b, tt)))
+Moved forC added (anAccumulator p) q r = (κs : Lfts 2) × (l m : Place) × c-add-other.Post κs (at l q, (at m p, tt)) tt (at l r, (at m p, tt))
+Moved forC taken (anAccumulator p) q r = (κs : Lfts 2) × (l m : Place) × c-sub-other.Post κs (at l q, (at m p, tt)) tt (at l r, (at m p, tt))
 
 -- ---- the negative
 
@@ -140,6 +172,13 @@ abbrev pub Negated : Way → List ℕ → List ℕ → Type 0
 Negated byValue q r = neg.Post tt (q, tt) r (q, tt)
 Negated lent q r = (κs : Lfts 1) × (m : Place) × negLent .Post κs (at m (accumulator q), tt) tt (at m (accumulator r), tt)
 Negated forC q r = (κs : Lfts 1) × (m : Place) × c-neg.Post κs (at m q, tt) tt (at m r, tt)
+
+-- ---- the size without its sign
+
+abbrev pub SignDropped : Way → List ℕ → List ℕ → Type 0
+SignDropped byValue q r = size.Post tt (q, tt) r (q, tt)
+SignDropped lent q r = (κs : Lfts 1) × (m : Place) × qAbsLent .Post κs (at m (accumulator q), tt) tt (at m (accumulator r), tt)
+SignDropped forC q r = (κs : Lfts 1) × (m : Place) × c-size.Post κs (at m q, tt) tt (at m r, tt)
 
 -- ---- the questions whether the words q are those of zero, and of NaR: the answer is b
 
