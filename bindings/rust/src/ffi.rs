@@ -25,6 +25,9 @@ unsafe extern "C" {
     pub safe fn stallhitch_q32e2_to_posit(q: &[u64; 8]) -> u32;
     pub safe fn stallhitch_q32e2_is_zero(q: &[u64; 8]) -> bool;
     pub safe fn stallhitch_q32e2_is_nar(q: &[u64; 8]) -> bool;
+    pub safe fn stallhitch_q32e2_qAddQ(q: &mut [u64; 8], p: &[u64; 8]);
+    pub safe fn stallhitch_q32e2_qSubQ(q: &mut [u64; 8], p: &[u64; 8]);
+    pub safe fn stallhitch_q32e2_qAbs(q: &mut [u64; 8]);
 
     pub fn stallhitch_write_image(q: &[u64; 8], buffer: *mut u8, length: usize) -> u32;
     pub fn stallhitch_read_image(q: &mut [u64; 8], bytes: *const u8, length: usize) -> u32;

@@ -19,8 +19,9 @@
 //! softposit 0.4.0 answers otherwise. Two things differ for the compiler: functions are not `const`, and of softposit's traits only
 //! the operators are here.
 //!
-//! What softposit has not: the image of an accumulator, batches of products, and the check of a claim about one. Each says no by a
-//! [`Refusal`].
+//! What softposit has not: one accumulator added to another or taken from it, and its total without the sign (`qAddQ`, `qSubQ` and
+//! `qAbs` of [`Q32E2`]); the image of an accumulator, batches of products, and the check of a claim about one, each of which says no
+//! by a [`Refusal`].
 
 mod desk;
 pub mod ffi;

@@ -102,13 +102,13 @@ fn a_batch_is_its_steps() {
 fn the_range_is_judged_after_each_pair() {
     let largest = Q32E2::from_bits([u64::MAX >> 1, !0, !0, !0, !0, !0, !0, !0]);
     let (a, b) = ([p(1), p(1)], [p(1), -p(1)]);
-    let mut q = largest.clone();
+    let mut q = largest;
     q.add_batch(&a, &b).unwrap();
     assert_eq!(q, Q32E2::NAR);
-    let mut q = largest.clone();
+    let mut q = largest;
     q.add_batch(&b, &b).unwrap();
     assert_eq!(q, Q32E2::NAR);
-    let mut q = largest.clone();
+    let mut q = largest;
     q.add_batch(&[-p(1), p(1)], &[p(1), p(1)]).unwrap();
     assert_eq!(q, largest);
 }
