@@ -354,10 +354,118 @@ def quire_records(count=2000):
     return out, "".join(f"quire {n} {done[n]} run 0 wrong\n" for n in names), {"accumulator": counts}
 
 
+# ---- two accumulators: the states are as above, and so is the range
+
+JOINS = ["qAddQ", "qSubQ", "qAbs"]
+BORDERS = [64 * i for i in range(1, 8)]
+ENDS = [TOP, TOP - 1, TOP - 2, 2 ** 510, 2 ** 510 - 1, 2 ** 510 + 1, 1, 2, 2 ** 64, 2 ** 448 - 1]
+ENDS = [None, 0] + ENDS + [-t for t in ENDS]
+
+
+def joined(name, t, u):
+    """What an operation makes of two states, and the exact total before its range is judged."""
+    if t is None or u is None and name != "qAbs":
+        return None, None
+    total = {"qAddQ": lambda: t + u, "qSubQ": lambda: t - u, "qAbs": lambda: abs(t)}[name]()
+    return vectors.kept(512, total), total
+
+
+def from_words(words):
+    """The state that eight words are, the most significant first."""
+    n = sum(w << 64 * (7 - i) for i, w in enumerate(words))
+    return None if n == 2 ** 511 else n - 2 ** 512 if n > 2 ** 511 else n
+
+
+def off_nar(digit):
+    """The words of NaR, with one more digit set."""
+    return 2 ** digit - 2 ** 511
+
+
+def any_word():
+    return dice.choice((0, 1, 2 ** 63, 2 ** 64 - 1, 2 ** 63 - 1, dice.getrandbits(64), dice.getrandbits(64)))
+
+
+def one_word():
+    place, word = dice.randrange(8), any_word() or dice.getrandbits(16)
+    return from_words([word if i == place else 0 for i in range(8)])
+
+
+def every_word():
+    return from_words([any_word() for _ in range(8)])
+
+
+def aimed_pair(name):
+    """A state, and another that brings it to an end of the range, out of it by one or two units, or to a word's border."""
+    sign, j = dice.choice((1, -1)), dice.choice(BORDERS)
+    total = sign * dice.choice((TOP, TOP, TOP + 1, TOP + 1, TOP + 2, TOP - 1, 0, 1, 2 ** j, 2 ** j - 1, 2 ** j + 1))
+    t = sign * max(abs(free_state()), 1) if abs(total) > TOP - 2 else free_state() // 2
+    u = total - t
+    return max(-TOP, min(TOP, t)), max(-TOP, min(TOP, u if name == "qAddQ" else -u))
+
+
+def close_pair(name):
+    """Totals that cancel all but a few units, or just those below some digit."""
+    t = dice.choice((free_state, every_word, one_word))() or 0
+    u = t + dice.choice((0, 0, 1, -1, 2 ** dice.randrange(511), -(2 ** dice.randrange(511))))
+    return t, max(-TOP, min(TOP, u)) * (-1 if name == "qAddQ" else 1)
+
+
+def off_pair(name):
+    """Words one digit off NaR's on one side; on the other what leads to -2^511 or just not there, or another state."""
+    digit, other = dice.randrange(511), off_nar(dice.randrange(511))
+    t = off_nar(digit)
+    u = dice.choice((-(2 ** digit), 1 - 2 ** digit, 0, other, -other, free_state(), free_state()))
+    if name == "qAddQ":
+        return (t, u) if dice.random() < 0.5 else (u, t)
+    return (t, -u) if dice.random() < 0.5 else (-u, t)
+
+
+def pairs_of(name, count):
+    """The states of one operation: each kind has its share."""
+    if name == "qAbs":
+        rows = [(t, None) for t in ENDS + [off_nar(d) for d in range(511)]]
+        kinds = (free_state, tie_state, one_word, every_word)
+        return rows + [(dice.choice(kinds)(), None) for _ in range(count - len(rows))]
+    rows = list(product(ENDS, repeat=2))
+    rows += [aimed_pair(name) for _ in range(500)]
+    rows += [close_pair(name) for _ in range(200)]
+    rows += [off_pair(name) for _ in range(300)]
+    rows += [(None, free_state()) if dice.random() < 0.5 else (free_state(), None) for _ in range(40)]
+    kinds = (free_state, one_word, every_word)
+    return rows + [(dice.choice(kinds)(), dice.choice(kinds)()) for _ in range(count - len(rows))]
+
+
+def judged(counts, rows, name):
+    """What the pairs of one operation come to."""
+    for t, u in rows:
+        after, total = joined(name, t, u)
+        counts["NaR in"] += total is None
+        counts["out of the range"] += total is not None and after is None
+        counts["by one unit"] += total is not None and abs(total) == TOP + 1
+        counts["to the last total"] += after is not None and abs(after) == TOP
+        counts["to 0"] += after == 0
+        counts["one digit off NaR"] += any(x is not None and x < 0 and (x + 2 ** 511).bit_count() == 1 for x in (t, u))
+
+
+def join_records():
+    out, lines, all_counts = b"", [], {}
+    for op, name in enumerate(JOINS, len(OPERANDS) + len(STEPS) + 1):
+        rows = pairs_of(name, 1000 if name == "qAbs" else 2000)
+        for t, u in rows:
+            states = joined(name, t, u)[0], t, 0 if name == "qAbs" else u
+            out += struct.pack(">BII", op, 0, 0) + b"".join(bytes(vectors.image(512, x)) for x in states)
+        lines.append(f"quire {name} {len(rows)} run 0 wrong\n")
+        counts = all_counts[name] = dict.fromkeys(
+            ("NaR in", "out of the range", "by one unit", "to the last total", "to 0", "one digit off NaR"), 0)
+        judged(counts, rows, name)
+    return out, "".join(lines), all_counts
+
+
 def main():
     posits, quires = posit_records(), quire_records()
-    text = posits[1] + quires[1] + "unknown 0 run 0 wrong\n"
-    files = {"stdin": posits[0] + quires[0], "stdout": text.encode()}
+    joins = join_records()      # last, so that the random numbers of the others stay what they are
+    text = posits[1] + quires[1] + joins[1] + "unknown 0 run 0 wrong\n"
+    files = {"stdin": posits[0] + quires[0] + joins[0], "stdout": text.encode()}
     if "--check" in sys.argv:
         same = all((CRATE / name).exists() and (CRATE / name).read_bytes() == new for name, new in files.items())
         print("the stored vectors are these" if same else "the stored vectors DIFFER")
@@ -365,7 +473,7 @@ def main():
     for name, new in files.items():
         (CRATE / name).write_bytes(new)
     print(text, end="")
-    for name, c in (posits[2] | quires[2]).items():
+    for name, c in (posits[2] | quires[2] | joins[2]).items():
         print(f"  {name}: {c}")
 
 

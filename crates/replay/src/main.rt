@@ -7,21 +7,24 @@ use p32e2::P32E2;
 use quire_steps::add_posit;
 use quire_steps::add_product;
 use quire_steps::neg;
+use quire_steps::qAbs;
+use quire_steps::qAddQ;
+use quire_steps::qSubQ;
 use quire_steps::sub_posit;
 use quire_steps::sub_product;
 use quire_totals::to_posit;
 
 // A record's bytes: an operation's number, two patterns, and then, for the posit's operations, a third pattern and the answer; for the accumulator's, an image.
-// Patterns are high byte first. `whole` is false where the input has ended.
+// Where whole accumulators are operands, two more images are behind that. Patterns are high byte first. `whole` is false where the input has ended.
 struct Record {
     whole: bool,
-    bytes: [u8; 73],
+    bytes: [u8; 201],
 }
 
-// For each operation's number how many were run and how many were wrong. Place 16 is for numbers that no operation has.
+// For each operation's number how many were run and how many were wrong. Place 19 is for numbers that no operation has.
 struct Tally {
-    run: [u64; 17],
-    wrong: [u64; 17],
+    run: [u64; 20],
+    wrong: [u64; 20],
 }
 
 fn main() {
@@ -44,7 +47,10 @@ fn main() {
     line(b"quire sub_posit", run[13], wrong[13]);
     line(b"quire neg", run[14], wrong[14]);
     line(b"quire to_posit", run[15], wrong[15]);
-    line(b"unknown", run[16], wrong[16]);
+    line(b"quire qAddQ", run[16], wrong[16]);
+    line(b"quire qSubQ", run[17], wrong[17]);
+    line(b"quire qAbs", run[18], wrong[18]);
+    line(b"unknown", run[19], wrong[19]);
 }
 
 fn line(name: &[u8], run: u64, wrong: u64) {
@@ -58,9 +64,9 @@ fn line(name: &[u8], run: u64, wrong: u64) {
 
 // Every record to the end of the input, of which a million are read at most.
 fn replayed() -> Tally {
-    let mut run = [0u64; 17];
-    let mut wrong = [0u64; 17];
-    let mut before = [0u8; 73];
+    let mut run = [0u64; 20];
+    let mut wrong = [0u64; 20];
+    let mut before = [0u8; 201];
     let mut left: u64 = 1_000_000;
     while 0 < left {
         left -= 1;
@@ -81,19 +87,19 @@ fn replayed() -> Tally {
 
 // An operation's place in the tally.
 fn place(op: u8) -> usize
-    ensures { λ r. ⌜ r ≤ 16 ⌝ }
+    ensures { λ r. ⌜ r ≤ 19 ⌝ }
 {
-    if op < 16 { op as usize } else { 16 }
+    if op < 19 { op as usize } else { 19 }
 }
 
 // Whether our code gives a record's answer. A step leads from the image of the record before it to its own; a rounding is of its own image, and its answer is
-// the first pattern. A number that no operation has is not right.
-fn is_right(before: [u8; 73], record: [u8; 73]) -> bool {
+// the first pattern.
+fn is_right(before: [u8; 201], record: [u8; 201]) -> bool {
     let a = P32E2(word(&record, 1));
     let b = P32E2(word(&record, 5));
     let c = P32E2(word(&record, 9));
     let answer = word(&record, 13);
-    let q = state_of(before);
+    let q = state_of(&before[9..73]);
     let op = record[0];
     match op {
         0 => a.neg().to_bits() == answer,
@@ -111,23 +117,36 @@ fn is_right(before: [u8; 73], record: [u8; 73]) -> bool {
         12 => leads_to(add_posit(q, a), record),
         13 => leads_to(sub_posit(q, a), record),
         14 => leads_to(neg(q), record),
-        15 => to_posit(state_of(record)).to_bits() == word(&record, 1),
+        15 => to_posit(state_of(&record[9..73])).to_bits() == word(&record, 1),
+        _ => is_joined(record),
+    }
+}
+
+// The same of whole accumulators, which are in the record, behind its own image. A number that no operation has is not right.
+fn is_joined(record: [u8; 201]) -> bool {
+    let q = state_of(&record[73..137]);
+    let p = state_of(&record[137..]);
+    let op = record[0];
+    match op {
+        16 => leads_to(qAddQ(q, p), record),
+        17 => leads_to(qSubQ(q, p), record),
+        18 => leads_to(qAbs(q), record),
         _ => false,
     }
 }
 
 // Whether a record has the image of the state q.
-fn leads_to(q: [u64; 8], record: [u8; 73]) -> bool {
-    check::same(&image_of(q), &record[9..])
+fn leads_to(q: [u64; 8], record: [u8; 201]) -> bool {
+    check::same(&image_of(q), &record[9..73])
 }
 
-// The state whose image a record has.
-fn state_of(record: [u8; 73]) -> [u64; 8] {
-    read_image([0; 8], &record[9..]).words
+// The state whose image the bytes are.
+fn state_of(image: &[u8]) -> [u64; 8] {
+    read_image([0; 8], image).words
 }
 
 fn next() -> Record {
-    let mut bytes = [0u8; 73];
+    let mut bytes = [0u8; 201];
     let n = io::read_full(0, &mut bytes[..9]);
     let size = size_of(bytes[0]);
     let m = io::read_full(0, &mut bytes[9..size]);
@@ -139,13 +158,16 @@ fn next() -> Record {
 
 // How long a record is.
 fn size_of(op: u8) -> usize
-    ensures { λ r. ⌜ (9 ≤ r) × (r ≤ 73) ⌝ }
+    ensures { λ r. ⌜ (9 ≤ r) × (r ≤ 201) ⌝ }
 {
-    if op < 10 { 17 } else { 73 }
+    if op < 10 {
+        return 17;
+    }
+    if op < 16 { 73 } else { 201 }
 }
 
 // The four bytes from a place on, the highest first.
-fn word(bytes: &[u8; 73], at: usize) -> u32
+fn word(bytes: &[u8; 201], at: usize) -> u32
     requires { ⌜ at ≤ 69 ⌝ }
 {
     wide(bytes[at]) << 24
