@@ -4,6 +4,7 @@ mod big;
 mod desk;
 mod entries;
 mod inputs;
+mod joins;
 mod model;
 mod report;
 mod same_text;
@@ -325,15 +326,8 @@ fn every_pattern() -> bool {
     differ == [0; 3] || report.finish("")
 }
 
-fn main() {
-    if std::env::args().nth(1).as_deref() == Some("every") {
-        std::process::exit(!every_pattern() as i32);
-    }
-    let mut args = std::env::args().skip(1).map(|a| a.parse::<u64>().expect("a number"));
-    let (Some(wanted), Some(seed)) = (args.next(), args.next()) else {
-        eprintln!("usage: compare INPUTS SEED | compare every");
-        std::process::exit(2);
-    };
+/// A panic of the source is kept for its answer; any other is shown as usual.
+fn keep_panics() {
     let usual = std::panic::take_hook();
     std::panic::set_hook(Box::new(move |info| {
         let place = info.location().map_or(String::new(), |l| format!("{}:{}", l.file(), l.line()));
@@ -343,27 +337,48 @@ fn main() {
             usual(info);
         }
     }));
+}
+
+/// Whether ours is right on about so many inputs, and every difference of the source explained.
+fn compared(wanted: u64, seed: u64) -> bool {
     let sparse = inputs::sparse_products();
     let mut r = Random::new(seed);
     let mut report = Report::default();
-    // The desk has random numbers and a report of its own: what the rest meets does not depend on it.
-    let mut desk_r = Random::new(Random::new(seed).next());
-    let mut desk_report = Report::default();
-    let start = std::time::Instant::now();
+    // The desk and the joins have random numbers and a report of their own: what the rest meets does not depend on them.
+    let own_seed = Random::new(seed).next();
+    let [mut desk_r, mut join_r] = [own_seed, !own_seed].map(Random::new);
+    let [mut desk_report, mut join_report] = [Report::default(), Report::default()];
     desk::limits(&mut desk_report, &mut desk_r);
+    joins::limits(&mut join_report);
     while report.inputs() < wanted {
         for _ in 0..400 {
             posits(&mut report, inputs::triple(&mut r, &sparse));
             states(&mut report, &mut r);
+            joins::some(&mut join_report, &mut join_r);
         }
         for _ in 0..4 {
             history(&mut report, &mut r);
+            joins::history(&mut join_report, &mut join_r);
         }
         for _ in 0..40 {
             desk::some(&mut desk_report, &mut desk_r);
         }
     }
-    let right = report.finish("") & desk_report.finish("of the desk ") & shown::hold() & same_text::agrees();
+    report.finish("") & desk_report.finish("of the desk ") & join_report.finish("of whole accumulators ")
+}
+
+fn main() {
+    if std::env::args().nth(1).as_deref() == Some("every") {
+        std::process::exit(!every_pattern() as i32);
+    }
+    let mut args = std::env::args().skip(1).map(|a| a.parse::<u64>().expect("a number"));
+    let (Some(wanted), Some(seed)) = (args.next(), args.next()) else {
+        eprintln!("usage: compare INPUTS SEED | compare every");
+        std::process::exit(2);
+    };
+    keep_panics();
+    let start = std::time::Instant::now();
+    let right = compared(wanted, seed) & shown::hold() & same_text::agrees();
     println!("Seconds: {}", start.elapsed().as_secs());
     std::process::exit(!right as i32);
 }

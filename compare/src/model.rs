@@ -248,6 +248,16 @@ pub fn judged(total: Option<Signed>) -> State {
     total.filter(|&t| in_range(t))
 }
 
+/// One state added to another, or taken from it (4.13).
+pub fn joined(q: State, p: State, plus: bool) -> State {
+    judged(moved(q, p, plus))
+}
+
+/// The total without its sign (4.14).
+pub fn without_sign(q: State) -> State {
+    q.map(|t| Signed::new(false, t.size))
+}
+
 pub fn to_posit(q: State) -> u32 {
     rounded(q)
 }

@@ -145,7 +145,9 @@ impl Report {
         for (name, n) in &self.compared {
             println!("  {n:>10}  {name}");
         }
-        println!("Differences of the source, by entry of docs/DIFFERENCES.md, with the smallest input:");
+        if !self.explained.is_empty() {
+            println!("Differences of the source, by entry of docs/DIFFERENCES.md, with the smallest input:");
+        }
         for (((number, case), name), kind) in &self.explained {
             println!("  {number:>2}  {case}; {name}: {} times", kind.met);
             println!("      {}", kind.text);
