@@ -25,7 +25,7 @@ fn p(bits: u32) -> P32E2 {
 
 fn main() {
     let rounds = std::env::args().nth(1).map_or(15, |a| a.parse().expect("a number of rounds"));
-    let mut bench = Bench { rounds, operations: Vec::new(), steps: Vec::new() };
+    let mut bench = Bench { rounds, operations: Vec::new(), steps: Vec::new(), joins: Vec::new() };
     println!("{:<12} {:<16} {:<10}  {:>7}  {:>7}  {:>5}", "", "mix", "", "ours ns", "Rust ns", "ratio");
 
     bench.operation("add", two(stallhitch_p32e2_add), |a, b, _| p(a).add(p(b)).to_bits());
@@ -47,6 +47,10 @@ fn main() {
     bench.to_posit();
     bench.batch();
     bench.claim();
+    println!("{:<12} {:<16} {:<10}  {:>7}  {:>7}  {:>5}", "", "mix", "", "ours ns", "step ns", "ratio");
+    bench.join("qAddQ", other(stallhitch_q32e2_qAddQ));
+    bench.join("qSubQ", other(stallhitch_q32e2_qSubQ));
+    bench.join("qAbs", alone(stallhitch_q32e2_qAbs));
     bench.tables();
 }
 
@@ -77,6 +81,20 @@ fn product(f: extern "C" fn(&mut [u64; 8], u32, u32)) -> impl Fn(&mut [u64; 8], 
     move |q, a, b| f(q, a, b)
 }
 
+fn other(f: extern "C" fn(&mut [u64; 8], &[u64; 8])) -> impl Fn(&mut [u64; 8], &[u64; 8]) {
+    let f = black_box(f);
+    move |q, p| f(q, p)
+}
+
+/// What has no other accumulator is done to a copy of it.
+fn alone(f: extern "C" fn(&mut [u64; 8])) -> impl Fn(&mut [u64; 8], &[u64; 8]) {
+    let f = black_box(f);
+    move |q, p| {
+        *q = *p;
+        f(q)
+    }
+}
+
 /// The lowest and the highest figures over the mixes.
 struct Spread {
     ours: [f64; 2],
@@ -104,6 +122,7 @@ struct Bench {
     rounds: u32,
     operations: Vec<String>,
     steps: Vec<String>,
+    joins: Vec<String>,
 }
 
 impl Bench {
@@ -248,12 +267,52 @@ impl Bench {
         self.steps.push(format!("| `{name}`, a pair of {PAIRS} | {} |", spread.row()));
     }
 
+    /// Whole accumulators, which the source has not. Each has one product; the other side is our own step that adds such a product.
+    fn join(&mut self, name: &str, ours: impl Fn(&mut [u64; 8], &[u64; 8])) {
+        let step = product(stallhitch_q32e2_add_product);
+        let mut spread = Spread::new();
+        for mix in MIXES {
+            let inputs = mix.triples(STATES);
+            let one = |&[a, b, _]: &[u32; 3]| {
+                let mut q = [0; 8];
+                step(&mut q, a, b);
+                q
+            };
+            let states: Vec<[u64; 8]> = inputs.iter().map(one).collect();
+            let joined = || {
+                let mut q = [0; 8];
+                states.iter().for_each(|p| ours(&mut q, p));
+                q
+            };
+            let stepped = || {
+                let mut q = [0; 8];
+                inputs.iter().for_each(|&[a, b, _]| step(&mut q, a, b));
+                q
+            };
+            self.differ(name, mix.name, (name == "qAddQ" && joined() != stepped()) as usize, 1);
+            let times = self.best(
+                STATES,
+                || {
+                    black_box(joined());
+                },
+                || {
+                    black_box(stepped());
+                },
+            );
+            self.line(name, mix.name, "step", times);
+            spread.add(times);
+        }
+        self.joins.push(format!("| `{name}` | {} |", spread.row()));
+    }
+
     fn tables(&self) {
         println!("\n| operation | throughput, ours | ratio over the mixes | latency, ours | ratio over the mixes |");
         println!("|---|---|---|---|---|");
         self.operations.iter().for_each(|row| println!("{row}"));
         println!("\n| accumulator | ours | ratio over the mixes |\n|---|---|---|");
         self.steps.iter().for_each(|row| println!("{row}"));
+        println!("\n| whole accumulator | ours | ratio to `add_product`, over the mixes |\n|---|---|---|");
+        self.joins.iter().for_each(|row| println!("{row}"));
     }
 }
 
