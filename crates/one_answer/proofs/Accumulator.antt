@@ -1,14 +1,18 @@
 -- One promise, one answer, of every public function on the accumulator. The statement is `Fixes` (Fixes.antt); p and p′ say that two results meet the contract.
 use mathlib.Core.Path.{refl, sym, _∙_}
 use lib.ListN.{getD}
+use borrow.Author.Needs.{needs}
 use Rattle.one_answer.specs.Fixes.{Fixes, FixesTyped, FixesLent}
-use Rattle.one_answer.proofs.Determined.{same-words}
+use Rattle.one_answer.proofs.Determined.{same-sum, same-words}
 use Rattle.quire_words.proofs as quire-words
 use Rattle.quire_steps.proofs as quire-steps
 use Rattle.quire_totals.proofs as quire-totals
 use Rattle.quire32.proofs as quire32
 
 -- ---- quire_words: where the number alone is told, it determines words of 64 bits
+pub quire-words-add-word-fixes : FixesTyped quire-words.add_word.ended (quire-words.add_word.Kinds.r .is .Ok) quire-words.add_word.Reads.Pre quire-words.add_word.Reads.Post
+quire-words-add-word-fixes = record { answers = λ κs a. tt; one = λ κs a x y u v p p′. let e = same-sum (x .low) (y .low) (x .carry) (y .carry) (search needs) (search needs) (p .1 ∙ sym (p′ .1)) in (λ i. record { low = e .0 i; carry = e .1 i }, refl) }
+
 pub quire-words-add-fixes : FixesTyped quire-words.add.ended (quire-words.add.Kinds.r .is .Ok) quire-words.add.Reads.Pre quire-words.add.Reads.Post
 quire-words-add-fixes = record { answers = λ κs a. tt; one = λ κs a x y u v p p′. (same-words x y (p .0) (p′ .0) (p .1 ∙ sym (p′ .1)), refl) }
 

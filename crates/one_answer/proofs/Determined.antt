@@ -1,6 +1,6 @@
 -- Where a contract tells an answer by what it means, the meaning determines the answer.
 use mathlib.Core.Path.{_≡_, refl, sym, ap, subst, _∙_}
-use mathlib.Core.Bool.{cond}
+use mathlib.Core.Bool.{Bool, true, false, cond}
 use mathlib.Core.Logic.{inl, inr}
 use mathlib.Core.List.{List}
 use Prim.Native.Nat.{ℕ, _+_, _*_, _/_, _^_, _≤_, _<_}
@@ -9,6 +9,7 @@ use native.Mathlib.Decide.{decLt, ℕ-discrete}
 use native.Mathlib.Omega.{arith}
 use borrow.Kind.Array.{rArr, eInt, eInt-laws}
 use mir.Syntax.{w64}
+use mir.Val.{boolByte}
 use lib.Dec.{eqb}
 use lib.Pow.{pow-pos, pow-mono, pow-add, shl-lt, shl-shr}
 use Rattle.posit.specs.Pattern.{nar, unsigned}
@@ -91,6 +92,13 @@ from-number : (ws : List ℕ) → Words ws → digits (2 ^ 64) 8 (wide ws) ≡ w
 from-number ws o =
     let t = words-typed 8 ws o in
     ap (λ (c : ℕ). digits (2 ^ 64) c (wide ws)) (sym (t .0)) ∙ digits-number (2 ^ 64) (pow-pos 64) ws (t .1)
+
+-- ---- a word of a sum and its carry, by what they count
+pub same-sum : (m n : ℕ) (c d : Bool) → m < 2 ^ 64 → n < 2 ^ 64 → m + boolByte c * 2 ^ 64 ≡ n + boolByte d * 2 ^ 64 → (m ≡ n) × (c ≡ d)
+same-sum m n true true h k e = (omega arith, refl)
+same-sum m n false false h k e = (omega arith, refl)
+same-sum m n true false h k e = absurd (omega arith)
+same-sum m n false true h k e = absurd (omega arith)
 
 pub same-words : (x y : List ℕ) → Words x → Words y → wide x ≡ wide y → x ≡ y
 same-words x y o o′ e = sym (from-number x o) ∙ ap (digits (2 ^ 64) 8) e ∙ from-number y o′

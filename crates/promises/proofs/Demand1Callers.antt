@@ -57,14 +57,15 @@ pub p32e2-asks-nothing :
 p32e2-asks-nothing = (λ κs a. tt, λ κs a. tt, λ κs a. tt, λ κs a. tt, λ κs a. tt, λ κs a. tt, λ κs a. tt, λ κs a. tt, λ κs a. tt, λ κs a. tt, λ κs a. tt, λ κs a. tt, λ κs a. tt, λ κs a. tt, λ κs a. tt)
 
 pub quire-words-asks-nothing :
-    Answers quire-words.add.ended quire-words.add.Reads.Pre
+    Answers quire-words.add_word.ended quire-words.add_word.Reads.Pre
+    × Answers quire-words.add.ended quire-words.add.Reads.Pre
     × Answers quire-words.complement.ended quire-words.complement.Reads.Pre
     × Answers quire-words.sub.ended quire-words.sub.Reads.Pre
     × Answers quire-words.negative_of.ended quire-words.negative_of.Reads.Pre
     × Answers quire-words.any_from.ended quire-words.any_from.Reads.Pre
     × Answers quire-words.is_alone.ended quire-words.is_alone.Reads.Pre
     × Answers quire-words.sign_of.ended quire-words.sign_of.Reads.Pre
-quire-words-asks-nothing = (λ κs a. tt, λ κs a. tt, λ κs a. tt, λ κs a. tt, λ κs a. tt, λ κs a. tt, λ κs a. tt)
+quire-words-asks-nothing = (λ κs a. tt, λ κs a. tt, λ κs a. tt, λ κs a. tt, λ κs a. tt, λ κs a. tt, λ κs a. tt, λ κs a. tt)
 
 pub quire-steps-asks-nothing :
     Answers quire-steps.add_product.ended quire-steps.add_product.Reads.Pre

@@ -1,14 +1,15 @@
 -- A number by its first digit: which digit it is, and whether anything stands behind it, to any base. P is what the first digit counts.
 use mathlib.Core.Path.{_≡_, sym, ap, _∙_}
-use mathlib.Core.Bool.{false}
+use mathlib.Core.Logic.{_≢_}
+use mathlib.Core.Bool.{false, not}
 use mathlib.Core.List.{List}
 use Prim.Native.Nat.{ℕ, suc, _+_, _-_, _*_, _/_, _%_, _^_, _<_}
 use native.Mathlib.Nat.{add-zero, mul-le-mul-right}
-use native.Mathlib.Decide.{decLt, ℕ-discrete}
+use native.Mathlib.Decide.{decLt}
 use native.Mathlib.Omega.{arith}
-use borrow.Author.Tests.{eq-eqb, ne-eqb, le-leb, lt-leb}
+use borrow.Author.Tests.{eq-eqb, ne-eqb, lt-ltb, le-ltb, le-leb, lt-leb}
 use lib.Arith.{digits-lt, digits-div, digits-mod}
-use lib.Dec.{eqb, leb}
+use lib.Dec.{eqb, leb, ltb}
 use lib.ListN.{length, getD, drop}
 use Rattle.posit.specs.Digits.{number, InBase}
 use Rattle.quire_words.specs.Words.{wide}
@@ -27,15 +28,18 @@ module _ (P x v : ℕ) (low : v < P) where
     sym (digits-mod x low) ∙ ap (λ (n : ℕ). n % P) e ∙ digits-mod y (omega arith),
   )
 
-  pub behind-none : (y : ℕ) → v ≡ 0 → eqb x y ≡ eqb (x * P + v) (y * P)
-  behind-none y z = go (ℕ-discrete x y)
-    where
-      go : Dec (x ≡ y) → eqb x y ≡ eqb (x * P + v) (y * P)
-      go (yes e) = rw (eq-eqb x y e, eq-eqb (x * P + v) (y * P) (rw (e, z, add-zero)))
-      go (no n) = rw (ne-eqb x y n, ne-eqb (x * P + v) (y * P) (λ e. n (same-first y (e ∙ sym (add-zero (y * P))) .0)))
+  pub other-first : (y : ℕ) → x ≢ y → false ≡ eqb (x * P + v) (y * P)
+  other-first y n = sym (ne-eqb (x * P + v) (y * P) (λ e. n (same-first y (e ∙ sym (add-zero (y * P))) .0)))
 
-  pub behind-some : (y : ℕ) → 0 < v → false ≡ eqb (x * P + v) (y * P)
-  behind-some y z = sym (ne-eqb (x * P + v) (y * P) (λ e. absurd (omega (arith, same-first y (e ∙ sym (add-zero (y * P))) .1))))
+  -- with that first digit, it is the digit alone where nothing stands behind it
+  pub alone : (y : ℕ) → x ≡ y → not (ltb 0 v) ≡ eqb (x * P + v) (y * P)
+  alone y e = go (decLt 0 v)
+    where
+      go : Dec (0 < v) → not (ltb 0 v) ≡ eqb (x * P + v) (y * P)
+      go (yes l) = rw (lt-ltb 0 v l) (sym (ne-eqb (x * P + v) (y * P) (λ f. absurd (omega (arith, same-first y (f ∙ sym (add-zero (y * P))) .1)))))
+      go (no l) =
+          let z : v ≡ 0 = omega arith in
+          rw (le-ltb 0 v (omega arith), eq-eqb (x * P + v) (y * P) (rw (e, z, add-zero)))
 
   -- the number reaches h in its first digit exactly where that digit does
   reaches : (h : ℕ) → leb h x ≡ leb (h * P) (x * P + v)

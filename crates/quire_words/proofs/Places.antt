@@ -53,5 +53,3 @@ words-typed n xs o = (search needs, below-each (2 ^ 64) xs (λ i. let f : Fits w
 -- eight of them are a number of 512 bits
 pub wide-typed : (xs : List ℕ) → rArr {k = 0} (eInt w64) (eInt-laws w64) 8 .is .Ok tt xs → wide xs < 2 ^ 512
 wide-typed xs o = let w = words-typed 8 xs o in rw (w .0) at (number-lt (2 ^ 64) xs (w .1))
-
--- a bool as a number
