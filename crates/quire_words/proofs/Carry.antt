@@ -68,7 +68,7 @@ sum-grows B n i c a b ha hb w j e =
     rw e (omega (arith, va, vb, add-mul (getD a j 0) (getD b j 0) (B ^ (n - i))))
 
 -- the largest digit less x, and x, and one, are the base
-base-parts : (B P x : ℕ) → x < B → B * P ≡ (B - 1 - x) * P + (x * P + P)
+pub base-parts : (B P x : ℕ) → x < B → B * P ≡ (B - 1 - x) * P + (x * P + P)
 base-parts B P x l =
     let e : B ≡ (B - 1 - x) + suc x = omega arith in
     ap (λ (b : ℕ). b * P) e ∙ add-mul (B - 1 - x) (suc x) P ∙ ap (λ (z : ℕ). (B - 1 - x) * P + z) (suc-mul x P)

@@ -4,3 +4,4 @@ pub mod Carry
 pub mod Seen
 pub mod First
 pub mod Operand
+pub mod Chain
