@@ -53,8 +53,8 @@ void stallhitch_q32e2_add_posit(uint64_t q[8], uint32_t a);                 /* q
 void stallhitch_q32e2_sub_posit(uint64_t q[8], uint32_t a);                 /* q -= a (4.3) */
 void stallhitch_q32e2_neg(uint64_t q[8]);                                   /* q = -q; NaR stays (4.6) */
 uint32_t stallhitch_q32e2_to_posit(const uint64_t q[8]);                    /* the total, rounded (4.7) */
-bool stallhitch_q32e2_is_zero(const uint64_t q[8]);                         /* all eight words read (4.2) */
-bool stallhitch_q32e2_is_nar(const uint64_t q[8]);                          /* all eight words read (4.2) */
+bool stallhitch_q32e2_is_zero(const uint64_t q[8]);                         /* by all eight words (4.2) */
+bool stallhitch_q32e2_is_nar(const uint64_t q[8]);                          /* by all eight words (4.2) */
 
 /* The total of another accumulator, added or taken, and the total without its sign. NaR on either
    side, or a new total outside +-(2^511 - 1), makes NaR. The words of NaR are not read as a number,

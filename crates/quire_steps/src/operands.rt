@@ -1,8 +1,7 @@
 // What a step brings: one posit or one exact product, with its sign.
 ghost use mathlib.Core.Path.{_≡_};
-ghost use Prim.Native.Nat.{_<_};
 ghost use Rattle.posit.specs.Accumulator.{ofPosit, ofProduct};
-ghost use Rattle.quire_words.proofs.Operand.{brought};
+ghost use Rattle.quire_words.proofs.Operand.{InPlace, brought};
 use p32e2::P32E2;
 use unpacking::NAR;
 use unpacking::either_nar;
@@ -18,7 +17,7 @@ pub(crate) struct Operand {
 
 // One posit: from the unit of its significand, 2^-150, it is 154 digits to the operand's.
 pub(crate) fn posit_of(p: P32E2) -> Operand
-    ensures { λ r. ⌜ (r .shift < 512) × (brought (r .nar) (r .negative) (r .shift) (r .significand) ≡ ofPosit 2 31 (p .0)) ⌝ }
+    ensures { λ r. ⌜ InPlace (r .shift) (r .significand) × (brought (r .nar) (r .negative) (r .shift) (r .significand) ≡ ofPosit 2 31 (p .0)) ⌝ }
 {
     let x = scaled_of(p.0);
     Operand {
@@ -31,7 +30,7 @@ pub(crate) fn posit_of(p: P32E2) -> Operand
 
 // The exact product of two: from the unit of the significands' product, 2^-300, it is 4 digits to the operand's.
 pub(crate) fn product_of(a: P32E2, b: P32E2) -> Operand
-    ensures { λ r. ⌜ (r .shift < 512) × (brought (r .nar) (r .negative) (r .shift) (r .significand) ≡ ofProduct 2 31 (a .0) (b .0)) ⌝ }
+    ensures { λ r. ⌜ InPlace (r .shift) (r .significand) × (brought (r .nar) (r .negative) (r .shift) (r .significand) ≡ ofProduct 2 31 (a .0) (b .0)) ⌝ }
 {
     let x = scaled_of(a.0);
     let y = scaled_of(b.0);

@@ -21,7 +21,7 @@ returns c =
     let told = c .before .posit-of .ensures in
     c .step .ensures
     ∙ ap (λ q. words 512 (plus 512 q (brought (x .nar) (x .negative) (x .shift) (x .significand)))) read-zero
-    ∙ ap (words 512) (from-zero (x .nar) (x .negative) (amount (x .shift) (x .significand)) (amount-below (x .significand) (x .shift) (omega arith) (told .0)) ∙ told .1)
+    ∙ ap (words 512) (from-zero (x .nar) (x .negative) (amount (x .shift) (x .significand)) (amount-below (x .significand) (x .shift) (omega arith) (told .0 .0)) ∙ told .1)
 
 pub from-posit-spec : {M : Type 1} → statement M
 from-posit-spec = tie.close (tie.spec posit-of-requires step-requires returns)

@@ -1,6 +1,5 @@
 -- `step_by` meets its contract: an operand with the other sign is the one that is taken (`directed-brought`).
 use mathlib.Core.Path.{ap, _∙_}
-use native.Mathlib.Omega.{arith}
 use borrow.Author.Needs.{needs}
 use Rattle.posit.specs.Accumulator.{words, fromWords}
 use Rattle.quire_steps.proofs.Stepped.{directed-brought}
@@ -11,7 +10,7 @@ directed-requires : tie.Need-directed-requires
 directed-requires c κs = search needs
 
 step-requires : tie.Need-step-requires
-step-requires c κs = omega (arith, c .directed .ensures .2)
+step-requires c κs = rw (c .directed .ensures .2, c .directed .ensures .3) (c .before .pre)
 
 returns : tie.Need-returns
 returns c =

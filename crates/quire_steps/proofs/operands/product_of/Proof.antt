@@ -1,10 +1,10 @@
--- `product_of` meets its contract, by `product-brought`: below 0 where just one of the two is.
+-- `product_of` meets its contract, by `product-brought` and `product-whole`: below 0 where just one of the two is.
 use Prim.Native.Nat.{_+_, _*_, _^_, _≤_, _<_}
 use native.Mathlib.Omega.{arith}
 use borrow.Author.Needs.{needs}
 use Rattle.rounding.proofs.Machine.{product-lt, differ-is}
 use Rattle.unpacking.proofs.Scale.{scaled-below}
-use Rattle.quire_steps.proofs.Brought.{product-brought}
+use Rattle.quire_steps.proofs.Brought.{product-brought, product-whole}
 use Rattle.quire_steps.proofs.operands.product_of.Statement.{statement}
 use Rattle.quire_steps.proofs.operands.product_of.Tie as tie
 
@@ -40,7 +40,7 @@ returns c =
     let b = k .before .before .args .b .0 in
     let x = k .before .scaled-of .result in
     let y = k .scaled-of2 .result in (
-      omega (arith, scales-below k),
+      (omega (arith, scales-below k), product-whole a b (x .scale) (y .scale) (x .significand) (y .significand) (omega arith) (omega arith) (k .before .scaled-of .ensures) (k .scaled-of2 .ensures)),
       rw (c .before .before .before .before .before .before .either-nar .ensures, differ-is _ _)
           (product-brought a b (x .scale) (y .scale) (x .significand) (y .significand) (omega arith) (omega arith) (k .before .scaled-of .ensures) (k .scaled-of2 .ensures)),
     )
