@@ -37,20 +37,25 @@ pub fn size(p: u32) -> u32 {
     (p as i32).unsigned_abs()
 }
 
+/// A random number from the next of a row of seeds.
+pub fn next(seed: &mut u64) -> u64 {
+    *seed = seed.wrapping_add(0x9E37_79B9_7F4A_7C15);
+    let mut z = *seed;
+    z = (z ^ (z >> 30)).wrapping_mul(0xBF58_476D_1CE4_E5B9);
+    z = (z ^ (z >> 27)).wrapping_mul(0x94D0_49BB_1331_11EB);
+    z ^ (z >> 31)
+}
+
 impl Mix {
     /// The same triples at each call.
     pub fn triples(&self, n: usize) -> Vec<[u32; 3]> {
         let mut seed: u64 = 1;
-        let mut next = || loop {
-            seed = seed.wrapping_add(0x9E37_79B9_7F4A_7C15);
-            let mut z = seed;
-            z = (z ^ (z >> 30)).wrapping_mul(0xBF58_476D_1CE4_E5B9);
-            z = (z ^ (z >> 27)).wrapping_mul(0x94D0_49BB_1331_11EB);
-            let p = (self.pattern)(z ^ (z >> 31));
+        let mut one = || loop {
+            let p = (self.pattern)(next(&mut seed));
             if p << 1 != 0 {
                 return p;
             }
         };
-        (0..n).map(|_| [next(), next(), next()]).collect()
+        (0..n).map(|_| [one(), one(), one()]).collect()
     }
 }
