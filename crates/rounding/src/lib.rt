@@ -1,4 +1,6 @@
 // The one rounding: a size told by a scale, a fraction and a sticky bit becomes a pattern.
+#![tactic(auto)]
+
 ghost use Rattle.std.specs.Prelude.{◌≡◌, suc, ◌-◌, ◌*◌, ◌/◌, ◌^◌, ◌<◌, ◌≤◌};
 ghost use Rattle.posit.specs.Exact.{whole};
 ghost use Rattle.posit.specs.Rounding.{round, signed};

@@ -1,9 +1,8 @@
 -- `half_even` meets its contract: where anything follows, or where the digits that stay are odd, the digit cut off is added; else it is dropped.
-use Rattle.std.proofs.Common.{◌≡◌, ℕ, ◌+◌, ◌/◌, ◌%◌, true, false, arith, rules}
+use Rattle.std.proofs.Common.{◌≡◌, ℕ, ◌+◌, ◌/◌, ◌%◌, true, false, arith}
 use native.Mathlib.Decide.{ℕ_discrete}
 use Rattle.posit.proofs.LongPattern.{half_even, even_stays, more_goes_up, tie_goes_even}
-use Rattle.rounding.proofs.half_even.Statement.{statement}
-use Rattle.rounding.proofs.half_even.Tie as tie
+use Rattle.rounding.proofs.half_even.Goals as goal
 
 more_adds : (h : ℕ) → h / 2 + h % 2 ≡ half_even h true
 more_adds h = go (ℕ_discrete (h % 2) 0)
@@ -20,22 +19,10 @@ tie_adds h n f g = go (ℕ_discrete (h % 2) 0)
     go (yes e) = omega (arith, even_stays h false e, g e)
     go (no e) = omega (arith, tie_goes_even h (omega arith), f (omega arith))
 
-add-result : tie.Need-overflow-add-result
-add-result c = search rules
+pub returns-then-more : goal.returns-then-more
+returns-then-more c = rw c.if-more.true (more_adds c.args.h)
 
-add-result-2 : tie.Need-overflow-add-result-2
-add-result-2 c = search rules
-
-add-result-3 : tie.Need-overflow-add-result-3
-add-result-3 c = search rules
-
-returns : tie.Need-returns
-returns c = rw c.if1.true (more_adds c.before.args.h)
-
-returns-2 : tie.Need-returns-2
-returns-2 c =
-    let h = c.before.args.h in
-    rw c.if1.false (tie_adds h ((h % 2 + h / 2 % 2) / 2) (λ e. omega arith) (λ e. omega arith))
-
-pub half_even_spec : {M : Type 1} → statement M
-half_even_spec = tie.close (tie.spec add-result add-result-2 add-result-3 returns returns-2)
+pub returns-else-more : goal.returns-else-more
+returns-else-more c =
+    let h = c.args.h in
+    rw c.if-more.false (tie_adds h ((h % 2 + h / 2 % 2) / 2) (λ e. omega arith) (λ e. omega arith))
