@@ -1,4 +1,6 @@
 // The bench sheet's cases 1 to 11, run on the code. That each check holds is proved from the contracts of the operations alone.
+#![tactic(auto)]
+
 ghost use Rattle.std.specs.Prelude.{◌≡◌};
 ghost use Rattle.posit.specs.Operation.{sum, product, quotient, square_root, fused_sum, fused_difference};
 

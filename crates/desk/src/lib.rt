@@ -1,4 +1,6 @@
 // The desk: the image of an accumulator, batches of products, and claims, each with its refusals. The accumulator comes and goes as its eight words.
+#![tactic(auto)]
+
 pub mod batch; // batch.rt: products of two lists, added up
 pub mod claim; // claim.rt: a claim against the image that is rebuilt
 pub mod image; // image.rt: 64 bytes, written and read

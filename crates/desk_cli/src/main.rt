@@ -10,6 +10,8 @@
 //
 // The output is one line: `right`, or the number of the refusal and its reason; the image in 128 digits; or what is wrong with the input, and in which line.
 // What is answered comes from `desk`: `check_claim` for a claim, `add_batch` from zero and `image_of` for an image.
+#![tactic(auto)]
+
 ghost use Rattle.std.specs.Prelude.{◌≤◌, length};
 ghost use Rattle.io.specs.Counts.{IsPrefixLen};
 

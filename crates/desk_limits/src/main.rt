@@ -1,5 +1,7 @@
 // Every number of the desk at its limit. Each line that is printed is a count or a number, and `stdout` has what they must be, worked out by hand from the
 // table of refusals.
+#![tactic(auto)]
+
 use desk::batch::add_batch;
 use desk::claim::check_claim;
 use desk::image::{image_of, read_image, write_image};

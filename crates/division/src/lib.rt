@@ -1,4 +1,6 @@
 // The quotient of two patterns, rounded once: one division of the significands, and the remainder as sticky bit.
+#![tactic(auto)]
+
 ghost use Rattle.std.specs.Prelude.{◌≡◌, ◌*◌, ◌^◌};
 ghost use Rattle.posit.specs.Pattern.{unsigned, size};
 ghost use Rattle.posit.specs.Exact.{ratio};

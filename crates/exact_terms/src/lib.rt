@@ -1,4 +1,6 @@
 // Sum, product and fused sum of patterns, each rounded once: over exact terms, which are posits or whole products.
+#![tactic(auto)]
+
 mod sums; // sums.rt: the sum of two terms
 mod terms; // terms.rt: posits and products as exact terms
 

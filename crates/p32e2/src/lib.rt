@@ -1,4 +1,6 @@
 // Posits of 32 bits with two exponent digits: the patterns by value, their constants, and a pattern taken apart.
+#![tactic(auto)]
+
 mod math; // math.rt: the root, and fused results
 mod ops; // ops.rt: the arithmetic
 

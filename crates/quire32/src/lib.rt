@@ -1,4 +1,6 @@
 // The accumulator Q32E2: sums of posits of 32 bits and of their exact products, without rounding. It counts units of 2^-240 in 512 bits.
+#![tactic(auto)]
+
 ghost use Rattle.std.specs.Prelude.{◌≡◌, [], ◌∷◌, ◌^◌};
 ghost use Rattle.posit.specs.Accumulator.{not_real, clear, is_not_real, is_clear, of_posit, of_product, plus, minus, negated, to_posit, parts_of, words, from_words};
 ghost use Rattle.quire_steps.specs.Sign.{sign_off};

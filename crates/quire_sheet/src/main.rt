@@ -1,4 +1,6 @@
 // The bench sheet's cases of the accumulator, 4 and 12 to 14, run on the code. That each check holds is proved from the contracts alone.
+#![tactic(auto)]
+
 ghost use Rattle.std.specs.Prelude.{◌≡◌, true};
 
 use desk::image::image_of;

@@ -1,4 +1,6 @@
 // The steps of the accumulator, by value: an operand is added at its place, and the new total judged by the range.
+#![tactic(auto)]
+
 mod operands; // operands.rt: what a step brings
 
 ghost use Rattle.std.specs.Prelude.{◌≡◌, cond, ◌+◌, ◌-◌, ◌*◌, ◌/◌, ◌%◌, ◌^◌, leb, nat_abs};

@@ -1,4 +1,6 @@
 // The rounding of a total, by value, and its parts.
+#![tactic(auto)]
+
 ghost use Rattle.std.specs.Prelude.{◌≡◌, [], ◌∷◌, ◌<◌, ◌^◌, drop, get_or};
 ghost use Rattle.posit.specs.Rounding.{rounded};
 ghost use Rattle.posit.specs.Accumulator.{to_posit, parts_of, from_words};

@@ -1,4 +1,6 @@
 // 512 bits in eight words by value, word 0 the most significant: one number, counted modulo 2^512.
+#![tactic(auto)]
+
 ghost use Rattle.std.specs.Prelude.{◌≡◌, ◌+◌, ◌-◌, ◌*◌, ◌%◌, ◌^◌, drop, ◌==◌, nat_le, nat_lt};
 ghost use mir.Val.{bool_byte};
 ghost use Rattle.quire_words.specs.Words.{wide};

@@ -1,5 +1,7 @@
 // Stored vectors of the posit's operations, of the accumulator's steps and of its rounding, run on the code. Each record of `stdin` has its answer from an exact
 // model (tools/replay_vectors.py). A line is printed for each operation: how many were run, and how many answered something else.
+#![tactic(auto)]
+
 ghost use Rattle.std.specs.Prelude.{◌≤◌};
 
 use desk::image::{image_of, read_image};

@@ -1,4 +1,6 @@
 // The square root of a pattern, rounded once: the whole root of a number of 64 bits, and a remainder that only tells whether the root is exact.
+#![tactic(auto)]
+
 ghost use Rattle.std.specs.Prelude.{◌≡◌, suc, ◌*◌, ◌<◌, ◌≤◌};
 ghost use Rattle.posit.specs.Operation.{square_root};
 

@@ -1,4 +1,6 @@
 // A pattern of 32 bits taken apart: into a significand at a scale, or into its sign, regime, exponent and significand.
+#![tactic(auto)]
+
 pub mod scaled; // scaled.rt: a size as a significand at a scale
 
 ghost use Rattle.std.specs.Prelude.{◌≡◌, ◌||◌, ◌==◌};
