@@ -3,8 +3,7 @@ use Rattle.std.proofs.Common.{◌≡◌, ℕ, zero, suc, ◌+◌, ◌-◌, ◌*�
 use Rattle.posit.specs.Pattern.{Positive, first, run, regime, regime_of, raised, least}
 use Rattle.posit.proofs.Word.{run_le, run_positive, first_is}
 use Rattle.posit.proofs.Unsigned.{regime_small}
-use Rattle.unpacking.proofs.scaled.base_of.Statement.{statement}
-use Rattle.unpacking.proofs.scaled.base_of.Tie as tie
+use Rattle.unpacking.proofs.scaled.base_of.Goals as goal
 
 zeros_base : (m : ℕ) → m < 31 → 4 * (30 - m) ≡ raised 2 (least 2 31) (neg_ℤ (pos m))
 zeros_base zero h = refl
@@ -31,23 +30,20 @@ module _ (b m : ℕ) (k : Positive 31 b) (is : m ≡ run (first 31 b) 31 b) wher
   short : b < 2 ^ 30 → m < 31
   short h = zeros_short m (rw (of_zeros h) (regime_small 31 b k))
 
-sub-result : tie.Need-overflow-sub-result
-sub-result c = let k = short _ _ c.before.requires.0 c.before.requires.1 (omega arith) in omega arith
+pub overflow_sub-result : goal.overflow_sub-result
+overflow_sub-result c = let k = short _ _ c.requires.0 c.requires.1 (omega arith) in omega arith
 
-add-result : tie.Need-overflow-add-result
-add-result c = let k = some _ _ c.before.requires.0 c.before.requires.1 in omega arith
+pub overflow_add-result : goal.overflow_add-result
+overflow_add-result c = let k = some _ _ c.requires.0 c.requires.1 in omega arith
 
-returns : tie.Need-returns
-returns c =
-    let a = c.before.args in
-    zeros_base a.m (short _ _ c.before.requires.0 c.before.requires.1 (omega arith)) ∙ ap (raised 2 (least 2 31)) (of_zeros _ _ c.before.requires.0 c.before.requires.1 (omega arith))
+pub returns-then-b-lt1073741824 : goal.returns-then-b-lt1073741824
+returns-then-b-lt1073741824 c =
+    let a = c.args in
+    zeros_base a.m (short _ _ c.requires.0 c.requires.1 (omega arith)) ∙ ap (raised 2 (least 2 31)) (of_zeros _ _ c.requires.0 c.requires.1 (omega arith))
 
-returns-2 : tie.Need-returns-2
-returns-2 c =
-    let a = c.before.args in
-    let k = some _ _ c.before.requires.0 c.before.requires.1 in
+pub returns-else-b-lt1073741824 : goal.returns-else-b-lt1073741824
+returns-else-b-lt1073741824 c =
+    let a = c.args in
+    let k = some _ _ c.requires.0 c.requires.1 in
     let base : 4 * (29 + a.m) ≡ raised 2 (least 2 31) (pos (a.m - 1)) = omega arith in
-    base ∙ ap (raised 2 (least 2 31)) (of_ones _ _ c.before.requires.0 c.before.requires.1 (omega arith))
-
-pub base_of_spec : {M : Type 1} → statement M
-base_of_spec = tie.close (tie.spec sub-result add-result returns returns-2)
+    base ∙ ap (raised 2 (least 2 31)) (of_ones _ _ c.requires.0 c.requires.1 (omega arith))

@@ -1,13 +1,12 @@
 -- `real` meets its contract: the regime and the exponent are a quotient and a remainder of the scale, and the regime fits its type.
-use Rattle.std.proofs.Common.{◌≡◌, ℕ, ◌+◌, ◌/◌, ◌%◌, ◌^◌, ◌<◌, Bool, ℤ, pos, negsuc, ◌-ℤ◌, nat_abs, ◌∙◌, arith, lit<, to_z-of_z, w32, SFits, to_z, rules}
+use Rattle.std.proofs.Common.{◌≡◌, ℕ, ◌+◌, ◌/◌, ◌%◌, ◌^◌, ◌<◌, Bool, ℤ, pos, negsuc, ◌-ℤ◌, nat_abs, ◌∙◌, arith, lit<, to_z-of_z, w32, SFits, to_z}
 use mir.Facts.{to_z_pos}
 use Rattle.posit.specs.Pattern.{Positive, regime, exponent, raised, least}
 use Rattle.posit.proofs.Unsigned.{regime_small, exponent_lt}
 use Rattle.unpacking.specs.Parts.{is_real}
 use Rattle.unpacking.proofs.Parts.{significand_lt}
 use Rattle.unpacking.proofs.Scale.{raised_high, regime_back, exponent_back}
-use Rattle.unpacking.proofs.real.Statement.{statement}
-use Rattle.unpacking.proofs.real.Tie as tie
+use Rattle.unpacking.proofs.real.Goals as goal
 
 small_fits : (k : ℤ) → nat_abs k < 31 → SFits w32 k
 small_fits (pos k) h = record { sfits = omega arith }
@@ -29,28 +28,22 @@ module _ (b c : ℕ) (k : Positive 31 b) (is : c ≡ raised 2 (least 2 31) (regi
   exponent_is : c % 4 ≡ exponent 2 31 b
   exponent_is = rw is (exponent_back (regime 31 b) (exponent 2 31 b) (regime_small 31 b k) (exponent_lt 2 31 b))
 
-to-scaled-requires : tie.Need-to-scaled-requires
-to-scaled-requires c κs = search rules
+pub overflow_cast-result : goal.overflow_cast-result
+overflow_cast-result c = let k = c in record { sfits = quotient_short _ _ k.requires k.to_scaled-x.ensures.0 }
 
-cast-t5 : tie.Need-overflow-cast-t5
-cast-t5 c = let k = c.before in record { sfits = quotient_short _ _ k.before.requires k.to-scaled.ensures.0 }
+pub overflow_sub-result : goal.overflow_sub-result
+overflow_sub-result c = let k = c in regime_fits _ _ k.requires k.to_scaled-x.ensures.0
 
-sub-t6 : tie.Need-overflow-sub-t6
-sub-t6 c = let k = c.before in regime_fits _ _ k.before.requires k.to-scaled.ensures.0
+pub overflow_cast-result-2 : goal.overflow_cast-result-2
+overflow_cast-result-2 c =
+    let k = c in
+    record { fits = omega (arith, k.to_scaled-x.ensures.1, significand_lt 2 31 k.args.b (lit< tt)) }
 
-cast-t8 : tie.Need-overflow-cast-t8
-cast-t8 c =
-    let k = c.before.before.before in
-    record { fits = omega (arith, k.to-scaled.ensures.1, significand_lt 2 31 k.before.args.b (lit< tt)) }
-
-returns : tie.Need-returns
+pub returns : goal.returns
 returns c =
-    let k = c.before.before.before in
-    let scale = k.to-scaled.ensures.0 in
+    let k = c in
+    let scale = k.to_scaled-x.ensures.0 in
     same_parts
-    (to_z-of_z (regime_fits _ _ k.before.requires scale) ∙ regime_is _ _ k.before.requires scale)
-    (exponent_is _ _ k.before.requires scale)
-    k.to-scaled.ensures.1
-
-pub real_spec : {M : Type 1} → statement M
-real_spec = tie.close (tie.spec to-scaled-requires cast-t5 sub-t6 cast-t8 returns)
+    (to_z-of_z (regime_fits _ _ k.requires scale) ∙ regime_is _ _ k.requires scale)
+    (exponent_is _ _ k.requires scale)
+    k.to_scaled-x.ensures.1
