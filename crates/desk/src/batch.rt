@@ -11,7 +11,7 @@ use quire_steps::add_product;
 // The greatest number of pairs that a batch may have.
 pub const PAIR_LIMIT: usize = 16384;
 
-#[derive(Drop)]
+#[derive(Clone, Copy)]
 pub enum BatchAnswer {
     Added,
     UnequalLists,
@@ -32,7 +32,7 @@ impl BatchAnswer {
 }
 
 // The words after the batch, or those that were given where it was refused.
-#[derive(Drop)]
+#[derive(Clone, Copy)]
 pub struct BatchAdded {
     pub words: [u64; 8],
     pub answer: BatchAnswer,

@@ -7,7 +7,7 @@ ghost use Rattle.desk.specs.Answers.{claim_number};
 use super::batch::{PAIR_LIMIT, sum_of};
 use super::image::{IMAGE_LENGTH, image_of};
 
-#[derive(Drop)]
+#[derive(Clone, Copy)]
 pub enum ClaimAnswer {
     Right,
     UnequalLists,

@@ -10,7 +10,7 @@ ghost use Rattle.posit.proofs.Digits.{Prefix};
 // The length of an image, in bytes.
 pub const IMAGE_LENGTH: usize = 64;
 
-#[derive(Drop)]
+#[derive(Clone, Copy)]
 pub enum WriteAnswer {
     Written,
     BufferTooShort,
@@ -28,7 +28,7 @@ impl WriteAnswer {
     }
 }
 
-#[derive(Drop)]
+#[derive(Clone, Copy)]
 pub enum ReadAnswer {
     Read,
     WrongLength,
@@ -46,7 +46,7 @@ impl ReadAnswer {
 }
 
 // The words that were read, or those that were given where the reading was refused.
-#[derive(Drop)]
+#[derive(Clone, Copy)]
 pub struct ImageRead {
     pub words: [u64; 8],
     pub answer: ReadAnswer,

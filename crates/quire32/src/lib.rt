@@ -9,7 +9,7 @@ use p32e2::P32E2;
 use quire_totals::{ThreePosits, TwoPosits, three_posits, two_posits};
 
 // The eight words, word 0 most significant: one number in two's complement. The one pattern of -2^511 is NaR.
-#[derive(Drop)]
+#[derive(Clone, Copy)]
 pub struct Q32E2(pub [u64; 8]);
 
 impl Q32E2 {

@@ -28,13 +28,13 @@ pub fn to_posit(q: [u64; 8]) -> P32E2
 }
 
 // A total in parts: each the rounding of what the parts before it leave.
-#[derive(Drop)]
+#[derive(Clone, Copy)]
 pub struct TwoPosits {
     pub first: P32E2,
     pub second: P32E2,
 }
 
-#[derive(Drop)]
+#[derive(Clone, Copy)]
 pub struct ThreePosits {
     pub first: P32E2,
     pub second: P32E2,

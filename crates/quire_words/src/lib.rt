@@ -11,7 +11,7 @@ use std::num::wrapping_add_u64;
 pub const NAR_WORD: u64 = 0x8000_0000_0000_0000;
 
 // A word of a sum, and whether one is carried out of it.
-#[derive(Drop)]
+#[derive(Clone, Copy)]
 pub struct Sum {
     pub low: u64,
     pub carry: bool,

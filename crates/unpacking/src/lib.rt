@@ -14,7 +14,7 @@ use scaled::to_scaled;
 pub const NAR: u32 = 0x8000_0000;
 
 // What a pattern is: zero, NaR, or the sign (true below 0), the regime k, the exponent e, and the significand with its leading one at bit 30.
-#[derive(Drop)]
+#[derive(Clone, Copy)]
 pub enum Unpacked {
     Zero,
     NaR,

@@ -8,7 +8,7 @@ ghost use Rattle.unpacking.specs.Scaled.{IsScaled};
 use super::{NAR, sign_off};
 
 // significand·2^scale, in units of 2^-150; the leading one of the significand is at bit 30.
-#[derive(Drop)]
+#[derive(Clone, Copy)]
 pub struct Scaled {
     pub scale: u32,
     pub significand: u64,

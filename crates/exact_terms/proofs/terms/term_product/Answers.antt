@@ -7,20 +7,16 @@ use Rattle.posit.specs.Operation.{exact_product}
 use Rattle.rounding.proofs.Terms.{IsTerm}
 use Rattle.rounding.proofs.Machine.{differ_is}
 use Rattle.exact_terms.proofs.Exactly.{product_term}
-use Rattle.exact_terms.proofs.terms.term_product.Statement.{statement}
-use Rattle.exact_terms.proofs.terms.term_product.Tie as tie
+use Rattle.exact_terms.proofs.terms.term_product.Goals as goal
 
-multiplied-requires : tie.Need-multiplied-requires
-multiplied-requires c κs = let k = c.requires in ((k.2.of_real k.0).in_scale, (k.3.of_real k.1).in_scale)
+pub multiplied-requires : goal.multiplied-requires
+multiplied-requires c = let k = c.requires in ((k.2.of_real k.0).in_scale, (k.3.of_real k.1).in_scale)
 
-returns : tie.Need-returns
+pub returns : goal.returns
 returns c =
-    let a = c.before.args in
-    let k = c.before.requires in
+    let a = c.args in
+    let k = c.requires in
     let t = c.multiplied.result in
     subst (λ (s : Bool). IsTerm (exact_product 2 31 a.a a.b) s t.scale t.significand)
     (sym (c.multiplied.ensures.0 ∙ differ_is (is_negative 31 a.a) (is_negative 31 a.b)))
     (product_term a.a a.b a.x.scale a.y.scale a.x.significand a.y.significand (omega arith) (omega arith) k.0 k.1 k.2 k.3 t.scale t.significand c.multiplied.ensures.1)
-
-pub term_product_spec : {M : Type 1} → statement M
-term_product_spec = tie.close (tie.spec multiplied-requires returns)

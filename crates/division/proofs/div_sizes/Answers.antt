@@ -4,17 +4,15 @@ use Prim.Native.Nat.{ℕ, suc, ◌+◌, ◌-◌, ◌*◌, ◌/◌, ◌%◌, ◌^
 use native.Mathlib.Nat.{le-div_iff_mul-le, div-lt_iff_lt-mul}
 use native.Mathlib.Decide.{dec_lt}
 use native.Mathlib.Omega.{arith}
-use borrow.Author.Rules.{rules}
 use lib.Dec.{ltb}
 use lib.Pow.{shl_exact}
-use Rattle.posit.specs.Pattern.{unsigned, size}
+use Rattle.posit.specs.Pattern.{size}
 use Rattle.posit.specs.Exact.{whole, ratio}
 use Rattle.posit.specs.Rounding.{round, signed}
 use Rattle.rounding.specs.Packed.{packed_size, packed_unit}
 use Rattle.unpacking.specs.Scaled.{scaled_unit, Scales}
 use Rattle.division.proofs.Divided.{ratio_rounds}
-use Rattle.division.proofs.div_sizes.Statement.{statement}
-use Rattle.division.proofs.div_sizes.Tie as tie
+use Rattle.division.proofs.div_sizes.Goals as goal
 
 -- a quotient from 2 ^ 31 to 2 ^ 33 has its leading one at bit 31, or at 32 where 2 ^ 32 goes into it
 leading_place : (q : ℕ) → 2 ^ 31 ≤ q → q < 2 ^ 33 → (2 ^ (31 + q / 2 ^ 32) ≤ q) × (q < 2 ^ suc (31 + q / 2 ^ 32))
@@ -65,87 +63,39 @@ module _ {a b c e g d : ℕ} (x : Scales a c g) (y : Scales b e d) where
       place.1)
       ∙ sym (ap₂ (λ (n m : ℕ). round 2 31 packed_unit (ratio (n * 2 ^ packed_unit) m)) x.size_is y.size_is)
 
--- what the two patterns are taken apart into
-dividend_scales : (k : tie.After-scaled-of2) → let a = k.before.before.args.a in Scales (unsigned 31 a) k.before.scaled-of.result.scale k.before.scaled-of.result.significand
-dividend_scales k = k.before.scaled-of.ensures.of_real k.before.before.requires.0
-
-divisor_scales : (k : tie.After-scaled-of2) → let b = k.before.before.args.b in Scales (unsigned 31 b) k.scaled-of2.result.scale k.scaled-of2.result.significand
-divisor_scales k = k.scaled-of2.ensures.of_real k.before.before.requires.1
-
-scaled-of-requires : tie.Need-scaled-of-requires
-scaled-of-requires c κs = search rules
-
-scaled-of-requires-2 : tie.Need-scaled-of-requires-2
-scaled-of-requires-2 c κs = search rules
-
-div-q : tie.Need-nonzero-div-q
-div-q c =
-    let k = c.before in
-    let y = divisor_scales k in
+pub nonzero_div-q : goal.nonzero_div-q
+nonzero_div-q c =
+    let y = c.scaled_of-y.ensures.of_real c.requires.1 in
     omega arith
 
-cast-high : tie.Need-overflow-cast-high
-cast-high c =
-    let k = c.before in
-    record { fits = omega (arith, high_small (dividend_scales k) (divisor_scales k)) }
+pub overflow_cast-high : goal.overflow_cast-high
+overflow_cast-high c =
+    record { fits = omega (arith, high_small (c.scaled_of-x.ensures.of_real c.requires.0) (c.scaled_of-y.ensures.of_real c.requires.1)) }
 
-add-pack : tie.Need-overflow-add-pack
-add-pack c =
-    let k = c.before in
-    record { fits = omega (arith, high_small (dividend_scales k) (divisor_scales k)) }
+pub overflow_add-high : goal.overflow_add-high
+overflow_add-high c =
+    record { fits = omega (arith, high_small (c.scaled_of-x.ensures.of_real c.requires.0) (c.scaled_of-y.ensures.of_real c.requires.1)) }
 
-add-pack-2 : tie.Need-overflow-add-pack-2
-add-pack-2 c =
-    let k = c.before.before in
-    let x = dividend_scales k in
-    record { fits = omega (arith, high_small (dividend_scales k) (divisor_scales k)) }
+pub overflow_add-high-2 : goal.overflow_add-high-2
+overflow_add-high-2 c =
+    let x = c.scaled_of-x.ensures.of_real c.requires.0 in
+    record { fits = omega (arith, high_small (c.scaled_of-x.ensures.of_real c.requires.0) (c.scaled_of-y.ensures.of_real c.requires.1)) }
 
-sub-pack : tie.Need-overflow-sub-pack
-sub-pack c =
-    let k = c.before.before.before in
-    let x = dividend_scales k in
-    let y = divisor_scales k in
+pub overflow_sub-high : goal.overflow_sub-high
+overflow_sub-high c =
+    let x = c.scaled_of-x.ensures.of_real c.requires.0 in
+    let y = c.scaled_of-y.ensures.of_real c.requires.1 in
     omega arith
 
-sub-pack-2 : tie.Need-overflow-sub-pack-2
-sub-pack-2 c =
-    let k = c.before.before.before in
-    omega (arith, high_small (dividend_scales k) (divisor_scales k))
+pub overflow_sub-high-2 : goal.overflow_sub-high-2
+overflow_sub-high-2 c =
+    omega (arith, high_small (c.scaled_of-x.ensures.of_real c.requires.0) (c.scaled_of-y.ensures.of_real c.requires.1))
 
-cast-pack : tie.Need-overflow-cast-pack
-cast-pack c = search rules
-
-shl-pack : tie.Need-overflow-shl-pack
-shl-pack c = search rules
-
-rem-pack : tie.Need-nonzero-rem-pack
-rem-pack c =
-    let k = c.before.before.before in
-    let y = divisor_scales k in
+pub nonzero_rem-n : goal.nonzero_rem-n
+nonzero_rem-n c =
+    let y = c.scaled_of-y.ensures.of_real c.requires.1 in
     omega arith
 
-pack-requires : tie.Need-pack-requires
-pack-requires c κs = search rules
-
-returns : tie.Need-returns
+pub returns : goal.returns
 returns c =
-    let k = c.before.before.before.before in
-    c.pack.ensures ∙ ap (signed 31 k.before.before.args.negative) (rounds (dividend_scales k) (divisor_scales k))
-
-pub div_sizes_spec : {M : Type 1} → statement M
-div_sizes_spec =
-    tie.close
-    (tie.spec
-    scaled-of-requires
-    scaled-of-requires-2
-    div-q
-    cast-high
-    add-pack
-    add-pack-2
-    sub-pack
-    sub-pack-2
-    cast-pack
-    shl-pack
-    rem-pack
-    pack-requires
-    returns)
+    c.pack.ensures ∙ ap (signed 31 c.args.negative) (rounds (c.scaled_of-x.ensures.of_real c.requires.0) (c.scaled_of-y.ensures.of_real c.requires.1))

@@ -10,8 +10,7 @@ use lib.Pow.{pow_pos}
 use Rattle.posit.proofs.Compare.{ltb_factor}
 use Rattle.rounding.proofs.Terms.{Normal}
 use Rattle.exact_terms.proofs.Added.{by_scale}
-use Rattle.exact_terms.proofs.sums.smaller.Statement.{statement}
-use Rattle.exact_terms.proofs.sums.smaller.Tie as tie
+use Rattle.exact_terms.proofs.sums.smaller.Goals as goal
 
 same_scale : (c g d h : ℕ) → c ≡ d → ltb g h ≡ ltb (g * 2 ^ c) (h * 2 ^ d)
 same_scale c g d h e = sym (ap (λ (n : ℕ). ltb (g * 2 ^ n) (h * 2 ^ d)) e ∙ ltb_factor g h (2 ^ d) (pow_pos d))
@@ -23,19 +22,16 @@ other_scale c g d h x y n = go (dec_lt c d)
     go (yes l) = lt-ltb c d l ∙ sym (lt-ltb (g * 2 ^ c) (h * 2 ^ d) (by_scale c g d h x y l))
     go (no l) = le-ltb c d (omega arith) ∙ sym (le-ltb (g * 2 ^ c) (h * 2 ^ d) (le_of_lt (by_scale d h c g y x (omega arith))))
 
-returns : tie.Need-returns
-returns c =
-    let k = c.before.before.before.before.before in
+pub returns-then-x-y : goal.returns-then-x-y
+returns-then-x-y c =
+    let k = c in
     let x = k.args.x in
     let y = k.args.y in
-    same_scale x.scale x.significand y.scale y.significand c.before.before.if1.true
+    same_scale x.scale x.significand y.scale y.significand c.if-x-y.true
 
-returns-2 : tie.Need-returns-2
-returns-2 c =
-    let k = c.before.before.before.before.before in
+pub returns-else-x-y : goal.returns-else-x-y
+returns-else-x-y c =
+    let k = c in
     let x = k.args.x in
     let y = k.args.y in
-    other_scale x.scale x.significand y.scale y.significand k.requires.0 k.requires.1 c.before.before.if1.false
-
-pub smaller_spec : {M : Type 1} → statement M
-smaller_spec = tie.close (tie.spec returns returns-2)
+    other_scale x.scale x.significand y.scale y.significand k.requires.0 k.requires.1 c.if-x-y.false

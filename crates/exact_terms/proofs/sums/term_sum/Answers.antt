@@ -3,7 +3,6 @@ use mathlib.Core.Path.{◌≡◌, refl, sym, ap, ap₂, subst₂, ◌∙◌}
 use mathlib.Core.Bool.{Bool, true, false, cond}
 use Prim.Native.Nat.{◌≤◌}
 use native.Mathlib.Nat.{le_of_lt}
-use borrow.Author.Rules.{rules}
 use borrow.Author.Tests.{ltb-true, ltb-false}
 use lib.Dec.{ltb}
 use lib.IntN.{ℤ, ◌+ℤ◌, +ℤ_comm}
@@ -11,8 +10,7 @@ use Rattle.posit.specs.Rounding.{rounded}
 use Rattle.rounding.specs.Packed.{packed_unit}
 use Rattle.exact_terms.specs.declared.terms.Term.{Term}
 use Rattle.rounding.proofs.Terms.{Normal, magnitude, term}
-use Rattle.exact_terms.proofs.sums.term_sum.Statement.{statement}
-use Rattle.exact_terms.proofs.sums.term_sum.Tie as tie
+use Rattle.exact_terms.proofs.sums.term_sum.Goals as goal
 
 abbrev worth : Term → ℤ
 worth t = term t.negative t.scale t.significand
@@ -30,30 +28,18 @@ module _ (x y : Term) where
   same_sum true = +ℤ_comm (worth y) (worth x)
   same_sum false = refl
 
-smaller-requires : tie.Need-smaller-requires
-smaller-requires c κs = search rules
-
-chosen-requires : tie.Need-chosen-requires
-chosen-requires c κs = search rules
-
-chosen-requires-2 : tie.Need-chosen-requires-2
-chosen-requires-2 c κs = search rules
-
-sum-ordered-requires : tie.Need-sum-ordered-requires
-sum-ordered-requires c κs =
-    let k = c.before.before.before in
+pub sum_ordered-requires : goal.sum_ordered-requires
+sum_ordered-requires c =
+    let k = c in
     let x = k.args.x in
     let y = k.args.y in
-    subst₂ Ordered (sym c.before.chosen.ensures) (sym c.chosen2.ensures) (ordered x y k.requires.0 k.requires.1 _ c.before.before.smaller.ensures)
+    subst₂ Ordered (sym c.chosen.ensures) (sym c.chosen-2.ensures) (ordered x y k.requires.0 k.requires.1 _ c.smaller-b.ensures)
 
-returns : tie.Need-returns
+pub returns : goal.returns
 returns c =
-    let k = c.before.before.before.before in
+    let k = c in
     let x = k.args.x in
     let y = k.args.y in
-    c.sum-ordered.ensures
+    c.sum_ordered.ensures
     ∙ ap (rounded 2 31 packed_unit)
-    (ap₂ (λ (h l : Term). worth h +ℤ worth l) c.before.before.chosen.ensures c.before.chosen2.ensures ∙ same_sum x y c.before.before.before.smaller.result)
-
-pub term_sum_spec : {M : Type 1} → statement M
-term_sum_spec = tie.close (tie.spec smaller-requires chosen-requires chosen-requires-2 sum-ordered-requires returns)
+    (ap₂ (λ (h l : Term). worth h +ℤ worth l) c.chosen.ensures c.chosen-2.ensures ∙ same_sum x y c.smaller-b.result)

@@ -1,6 +1,6 @@
 -- `sqrt` meets its contract: with the scale halved, the whole root r of the significand's number n counts the exact root (`root_packs`), and n times
 -- the square of a power of two is the number whose root is asked for (`root_in_units`).
-use Rattle.std.proofs.Common.{◌≡◌, ℕ, suc, ◌+◌, ◌-◌, ◌*◌, ◌/◌, ◌%◌, ◌^◌, ◌<◌, ◌≤◌, false, ltb, sym, refl, ap, ◌∙◌, subst, lt_of_lt_of_le, mul-le-mul, arith, lit≤, pow_mono, shl_lt, shl_exact, rules}
+use Rattle.std.proofs.Common.{◌≡◌, ℕ, suc, ◌+◌, ◌-◌, ◌*◌, ◌/◌, ◌%◌, ◌^◌, ◌<◌, ◌≤◌, false, ltb, sym, refl, ap, ◌∙◌, subst, lt_of_lt_of_le, mul-le-mul, arith, lit≤, pow_mono, shl_lt, shl_exact}
 use Rattle.posit.specs.Pattern.{Positive, unit}
 use Rattle.posit.specs.Exact.{whole, root}
 use Rattle.posit.specs.Rounding.{round, signed}
@@ -11,8 +11,7 @@ use Rattle.posit.proofs.Root.{same_powers, root_of_zero, root_of_none, root_in_u
 use Rattle.rounding.specs.Packed.{packed_unit, packed_size}
 use Rattle.unpacking.specs.Scaled.{scaled_unit, Scales}
 use Rattle.rounding.proofs.Packed.{significand_stands_for}
-use Rattle.square_root.proofs.sqrt.Statement.{statement}
-use Rattle.square_root.proofs.sqrt.Tie as tie
+use Rattle.square_root.proofs.sqrt.Goals as goal
 
 -- r is the whole root of n, which has 63 or 64 bits
 module _ (n r : ℕ) (least : 2 ^ 62 ≤ n) (fits : n < 2 ^ 64) (low : r * r ≤ n) (high : n < suc r * suc r) where
@@ -57,58 +56,18 @@ module _ (b c g : ℕ) (k : Positive 31 b) (s : Scales b c g) where
   root_rounded r q low high packed =
       (rw shifted at packed) ∙ sym (root_packs number r number_least number_fits (rw shifted at low) (rw shifted at high) (c / 2 + 964)) ∙ sym root_is
 
-returns : tie.Need-returns
-returns c = sym (root_of_zero 2 31 c.before.args.p (omega arith))
+pub returns-then-p-eq0 : goal.returns-then-p-eq0
+returns-then-p-eq0 c = sym (root_of_zero 2 31 c.args.p (omega arith))
 
-returns-2 : tie.Need-returns-2
-returns-2 c = sym (root_of_none 2 31 c.before.before.args.p (omega arith))
+pub returns-then-p-ge-NAR : goal.returns-then-p-ge-NAR
+returns-then-p-ge-NAR c = sym (root_of_none 2 31 c.args.p (omega arith))
 
-scaled-of-requires : tie.Need-scaled-of-requires
-scaled-of-requires c κs = search rules
-
-cast-n : tie.Need-overflow-cast-n
-cast-n c = search rules
-
-add-n : tie.Need-overflow-add-n
-add-n c = search rules
-
-shl-n : tie.Need-overflow-shl-n
-shl-n c = search rules
-
-root-of-requires : tie.Need-root-of-requires
-root-of-requires c κs = search rules
-
-add-pack : tie.Need-overflow-add-pack
-add-pack c = search rules
-
-mul-pack : tie.Need-overflow-mul-pack
-mul-pack c = search rules
-
-pack-requires : tie.Need-pack-requires
-pack-requires c κs = search rules
-
-returns-3 : tie.Need-returns-3
-returns-3 c =
-    let d = c.before.before.before.before.before in
-    let p = d.before.before.before.args.p in
-    let a = d.scaled-of.result in
-    let r = c.before.before.root-of in
+pub returns : goal.returns
+returns c =
+    let d = c in
+    let p = d.args.p in
+    let a = d.scaled_of-a.result in
+    let r = c.root_of-r in
     let scales : Scales p a.scale a.significand =
-    subst (λ (b : ℕ). Scales b a.scale a.significand) (unsigned_below 31 p (omega arith)) (d.scaled-of.ensures.of_real (omega arith, omega arith)) in
+    subst (λ (b : ℕ). Scales b a.scale a.significand) (unsigned_below 31 p (omega arith)) (d.scaled_of-a.ensures.of_real (omega arith, omega arith)) in
     root_rounded p a.scale a.significand (omega arith, omega arith) scales r.result c.pack.result r.ensures.0 r.ensures.1 c.pack.ensures
-
-pub sqrt_spec : {M : Type 1} → statement M
-sqrt_spec =
-    tie.close
-    (tie.spec
-    returns
-    returns-2
-    scaled-of-requires
-    add-n
-    cast-n
-    shl-n
-    root-of-requires
-    add-pack
-    mul-pack
-    pack-requires
-    returns-3)
