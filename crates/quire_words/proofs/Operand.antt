@@ -5,7 +5,7 @@ use Rattle.posit.specs.Pattern.{unit}
 use Rattle.posit.specs.Accumulator.{State, not_real, total, plus, minus}
 use Rattle.posit.proofs.Signs.{with_sign}
 
--- An operand is counted in units of 2 ^ - operandUnit, one word below the accumulator's, so that a significand is only moved up.
+-- An operand is counted in units of 2 ^ - operand_unit, one word below the accumulator's, so that a significand is only moved up.
 abbrev pub operand_unit : ℕ
 operand_unit = unit 2 31 + 64
 
