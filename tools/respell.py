@@ -16,7 +16,7 @@ import sys
 
 TOKEN = re.compile(r"[^\s(){}\[\];,.@:`\"|]+")
 BINDER = re.compile(r"[({]([^(){}:=]+?)\s:\s|λ\s([^.()]+)\.")
-SIGNATURE = re.compile(r"^\s*(?:(?:pub|abbrev|unfoldable|record|data)\s+)*([^\s(){}.;,=]+)\s+(?:\{[^}]*\}\s*)*:\s(.*)$")
+SIGNATURE = re.compile(r"^\s*(?:(?:pub|abbrev|unfoldable|record|data)\s+)*([^\s(){}.;,=]+)\s+(?:\{[^}]*\}\s*)*:(?:\s(.*))?$")
 CONSTRUCTOR_OR_LET = re.compile(r"\blet\s+([^\s(){}.;,=:]+)\s")
 HEAD = re.compile(r"^\s*(?:pub\s+)?(?:record|data)\s+(?:pub\s+)?([^\s(){}.;,=:]+)")
 ALIAS = re.compile(r"\bas\s+([^\s(){}.;,]+)")
@@ -80,7 +80,7 @@ def declared(path):
         m = SIGNATURE.match(line)
         if m:
             names.add(m.group(1))
-            if GOAL.match(m.group(2)):
+            if GOAL.match(m.group(2) or ""):
                 goals.add(m.group(1))
         for m in CONSTRUCTOR_OR_LET.finditer(line):
             names.add(m.group(1))
@@ -113,7 +113,7 @@ def respelled(name, code):
 
 
 def wants(name, code):
-    return re.match(r"[a-z]", name) and name not in code and (re.search(r"[A-Z]", name) or "-" in name.strip("-")) and re.fullmatch(r"[\w'-]+", name)
+    return re.match(r"[a-z]", name) and not {name, name.split("_")[0]} & code and (re.search(r"[A-Z]", name) or "-" in name.strip("-")) and re.fullmatch(r"[\w'-]+", name)
 
 
 def plan():
@@ -137,7 +137,7 @@ def clashes(path, table, goals, named):
     text = "\n".join(bare(line) for line in text_of(path).splitlines())
     here = {m.group(0): m.group(0) for m in TOKEN.finditer(text) if text[m.start() - 1 : m.start()] != "." and m.group(0) not in named}
     here.update({t: table[t] for t in here if t in table and t not in goals})
-    here.update({t: n for t, n in IN_FILE.get(path, {}).items() if t in here})
+    here.update({t: n for t, n in IN_FILE.get(path, {}).items() if t in here and n not in here})
     meet = collections.defaultdict(set)
     for old, new in here.items():
         meet[new].add(old)
@@ -198,7 +198,8 @@ def main(argv):
             print(old, new)
     if bad or "--list" in argv:
         return bad
-    turned = [(p, turn_antt(text_of(p), {**table, **IN_FILE.get(p, {})}, per_goal[p])) for p in antt_files()]
+    in_file = {p: {o: n for o, n in names.items() if n not in text_of(p)} for p, names in IN_FILE.items() if os.path.exists(p)}
+    turned = [(p, turn_antt(text_of(p), {**table, **in_file.get(p, {})}, per_goal[p])) for p in antt_files()]
     turned += [(p, turn_code(text_of(p), table)) for p in code_files()]
     turned += [(p, turn_tokens(text_of(p), table)) for p in sorted(glob.glob("crates/*/must-fail/*.edit"))]
     turned += [(p, turn_quoted(text_of(p), table)) for p in ["README.md", *sorted(glob.glob("docs/*.md"))]]

@@ -1,4 +1,4 @@
--- Two histories, each in an accumulator of its own: their images, read and joined, are that of the one history that joins them (`boxes-lead`), either first (`either_order`, `sums-alike`).
+-- Two histories, each in an accumulator of its own: their images, read and joined, are that of the one history that joins them (`boxes_lead`), either first (`either_order`, `sums_alike`).
 -- Turns through the image leave the exact total as it is (`total_without_turns`).
 use mathlib.Core.Path.{◌≡◌, refl, sym, ap, ap₂, subst, ◌∙◌}
 use mathlib.Core.List.{List}
@@ -36,10 +36,10 @@ total_joined h k = refl
 read_back : (h : History) (bs q : List ℕ) (way : Way) (i : Image h bs) → ReadOf way bs q → i.end ≡ q
 read_back h bs q way i read = runs_state h i.routes i.end i.runs ∙ sym (read_says way (after h) bs q (after_held h) (shown h bs i) read)
 
-pub boxes-lead :
+pub boxes_lead :
     (d : Direction) (h k : History) (bs cs ds q p r : List ℕ) (first second way : Way) (w : Writer)
     → Image h bs → Image k cs → ReadOf first bs q → ReadOf second cs p → Moved way d (an_accumulator p) q r → ImageOf w r ds → Image (h then move d (a_history k)) ds
-boxes-lead d h k bs cs ds q p r first second way w i j read read' moved shows = record {
+boxes_lead d h k bs cs ds q p r first second way w i j read read' moved shows = record {
   routes = (i.routes, (way, j.routes));
   end = r;
   runs = (q, subst (Runs h i.routes) (read_back h bs q first i read) i.runs, (p, subst (Runs k j.routes) (read_back k cs p second j read') j.runs, moved));
@@ -48,26 +48,26 @@ boxes-lead d h k bs cs ds q p r first second way w i j read read' moved shows = 
 }
 
 -- two images that were read, the second added to the first: the image of what comes out
-sum-shown :
+sum_shown :
     (bs cs ds q p r : List ℕ) (first second way : Way) (w : Writer) → ImageBytes bs → ImageBytes cs → ReadOf first bs q → ReadOf second cs p → Moved way added (an_accumulator p) q r → ImageOf w r ds
     → ds ≡ image 512 (plus 512 (from_image 512 bs) (from_image 512 cs))
 unfolding brought
-sum-shown bs cs ds q p r first second way w b c read read' moved shows =
+sum_shown bs cs ds q p r first second way w b c read read' moved shows =
     let S = from_image 512 bs in
     let T = from_image 512 cs in
     let held = held_by S q (image_held bs b) (read_says first S bs q (image_held bs b) (sym (bytes_back bs b)) read) in
     let held' = held_by T p (image_held cs c) (read_says second T cs p (image_held cs c) (sym (bytes_back cs c)) read') in
     image_says w (plus 512 S T) r ds (plus_held S T) (moved_says way added (an_accumulator p) q r moved ∙ ap₂ (λ t u. words 512 (plus 512 t u)) held held') shows
 
-pub sums-alike :
+pub sums_alike :
     (bs cs ds es q p r q' p' r' : List ℕ) (first second way first' second' way' : Way) (w w' : Writer) → ImageBytes bs → ImageBytes cs
     → ReadOf first bs q → ReadOf second cs p → Moved way added (an_accumulator p) q r → ImageOf w r ds
     → ReadOf first' cs p' → ReadOf second' bs q' → Moved way' added (an_accumulator q') p' r' → ImageOf w' r' es
     → ds ≡ es
-sums-alike bs cs ds es q p r q' p' r' first second way first' second' way' w w' b c read-b read-c moved shows read-c' read-b' moved' shows' =
-    sum-shown bs cs ds q p r first second way w b c read-b read-c moved shows
+sums_alike bs cs ds es q p r q' p' r' first second way first' second' way' w w' b c read-b read-c moved shows read-c' read-b' moved' shows' =
+    sum_shown bs cs ds q p r first second way w b c read-b read-c moved shows
     ∙ ap (image 512) (plus_commutes (from_image 512 bs) (from_image 512 cs))
-    ∙ sym (sum-shown cs bs es p' q' r' first' second' way' w' c b read-c' read-b' moved' shows')
+    ∙ sym (sum_shown cs bs es p' q' r' first' second' way' w' c b read-c' read-b' moved' shows')
 
 -- ---- turns
 

@@ -20,7 +20,7 @@ use Rattle.promises.specs.Operations.{Operation, operands, Patterns, By, Offered
 use Rattle.promises.specs.Asked.{Writing, Reading, Adding, Claiming}
 use Rattle.promises.specs.Rows.{Due, JustDue, write_rows, read_rows, batch_rows, claim_rows}
 use Rattle.promises.proofs.Typed.{words_typed, words_back, written_typed}
-use Rattle.promises.proofs.Said.{brought, shifted, begun_met, moved_met, negated_met, dropped_met, zero_met, nar_met, writes_says, writes_met, reads_says, reads_met, adds-says, adds-met, claims_says, claims_met}
+use Rattle.promises.proofs.Said.{brought, shifted, begun_met, moved_met, negated_met, dropped_met, zero_met, nar_met, writes_says, writes_met, reads_says, reads_met, adds_says, adds_met, claims_says, claims_met}
 use Rattle.promises.proofs.Told.{answer_of, done_met, done_offered, made_met, total_met}
 use Rattle.promises.proofs.Rounded.{told_pattern, total_pattern}
 use Rattle.promises.proofs.Refusals.{just_due, buffer_due, bytes_due, batch_due, claim_due, unwritten, rest_unwritten, unread, unadded, write_answer, read_answer, batch_answer, claim_answer}
@@ -71,7 +71,7 @@ bytes_get_an_answer way q bs =
 pub batches_get_an_answer : (way : Way) (q xs ys : List ℕ) → (n : ℕ) × (r : List ℕ) × EightWords r × Adding way q xs ys n r
 batches_get_an_answer way q xs ys =
     let x = batch_answer xs ys in
-    (batch_number x.0, words 512 (after_batch 2 31 512 (from_words 512 q) xs ys), words_typed _, adds-met way q xs ys x.0 x.1)
+    (batch_number x.0, words 512 (after_batch 2 31 512 (from_words 512 q) xs ys), words_typed _, adds_met way q xs ys x.0 x.1)
 
 -- by value and for C
 pub claims_get_an_answer : (way : Way) → way ≢ lent → (xs ys cs : List ℕ) → (n : ℕ) × Claiming way xs ys cs n
@@ -87,7 +87,7 @@ read_number_just_due way q bs n r a = just_due (read_rows bs) n (subst (Due (rea
 
 pub batch_number_just_due : (way : Way) (q xs ys : List ℕ) (n : ℕ) (r : List ℕ) → Adding way q xs ys n r → JustDue (batch_rows xs ys) n
 batch_number_just_due way q xs ys n r a =
-    just_due (batch_rows xs ys) n (subst (Due (batch_rows xs ys)) (sym (adds-says way q xs ys n r a).0) (batch_due xs ys))
+    just_due (batch_rows xs ys) n (subst (Due (batch_rows xs ys)) (sym (adds_says way q xs ys n r a).0) (batch_due xs ys))
 
 pub claim_number_just_due : (way : Way) (xs ys cs : List ℕ) (n : ℕ) → Claiming way xs ys cs n → JustDue (claim_rows xs ys cs) n
 claim_number_just_due way xs ys cs n a =
@@ -106,10 +106,10 @@ pub refused_reading_stays : (way : Way) (q bs : List ℕ) (n : ℕ) (r : List �
 refused_reading_stays way q bs n r t a o = let s = reads_says way q bs n r a in s.1 ∙ ap (words 512) (unread (from_words 512 q) bs (λ z. o (s.0 ∙ z))) ∙ words_back q t
 
 pub refused_batch_stays : (way : Way) (q xs ys : List ℕ) (n : ℕ) (r : List ℕ) → EightWords q → Adding way q xs ys n r → n ≢ 0 → r ≡ q
-refused_batch_stays way q xs ys n r t a o = let s = adds-says way q xs ys n r a in s.1 ∙ ap (words 512) (unadded (from_words 512 q) xs ys (λ z. o (s.0 ∙ z))) ∙ words_back q t
+refused_batch_stays way q xs ys n r t a o = let s = adds_says way q xs ys n r a in s.1 ∙ ap (words 512) (unadded (from_words 512 q) xs ys (λ z. o (s.0 ∙ z))) ∙ words_back q t
 
 -- what is lent to be read, the lists, the claim and the bytes, the accumulator whose image is written and the one that is added or taken, is at exit as it was
-pub what-is-read-stays :
+pub what_is_read_stays :
     Untouched desk.batch.add_batch.ended (λ κs s. s) (λ κs a. a)
     × Untouched desk.claim.check_claim.ended (λ κs s. s) (λ κs a. a)
     × Untouched desk.image.read_image.ended (λ κs s. s) (λ κs a. a)
@@ -122,4 +122,4 @@ pub what-is-read-stays :
     × Untouched capi.claims.stallhitch_write_image.ended (λ κs s. s.0) (λ κs a. a.0)
     × Untouched capi.accumulators.stallhitch_q32e2_qAddQ.ended (λ κs s. s.1) (λ κs a. a.1)
     × Untouched capi.accumulators.stallhitch_q32e2_qSubQ.ended (λ κs s. s.1) (λ κs a. a.1)
-what-is-read-stays = (λ κs a u. refl, λ κs a u. refl, λ κs a u. refl, λ κs a u. refl, λ κs a u. refl, λ κs a u. refl, λ κs a u. refl, λ κs a u. refl, λ κs a u. refl, λ κs a u. refl, λ κs a u. refl, λ κs a u. refl)
+what_is_read_stays = (λ κs a u. refl, λ κs a u. refl, λ κs a u. refl, λ κs a u. refl, λ κs a u. refl, λ κs a u. refl, λ κs a u. refl, λ κs a u. refl, λ κs a u. refl, λ κs a u. refl, λ κs a u. refl, λ κs a u. refl)

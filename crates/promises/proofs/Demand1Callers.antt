@@ -14,31 +14,31 @@ use Rattle.desk.proofs as desk
 use Rattle.capi.proofs as capi
 use Rattle.promises.specs.Contract.{Answers, AnswersLent}
 
-pub rounding-asks-nothing :
+pub rounding_asks_nothing :
     Answers rounding.pack.ended rounding.pack.Reads.Pre
-rounding-asks-nothing = λ κs a. tt
+rounding_asks_nothing = λ κs a. tt
 
-pub unpacking-asks-nothing :
+pub unpacking_asks_nothing :
     Answers unpacking.unpack.ended unpacking.unpack.Reads.Pre
     × Answers unpacking.either_nar.ended unpacking.either_nar.Reads.Pre
     × Answers unpacking.scaled.scaled_of.ended unpacking.scaled.scaled_of.Reads.Pre
-unpacking-asks-nothing = (λ κs a. tt, λ κs a. tt, λ κs a. tt)
+unpacking_asks_nothing = (λ κs a. tt, λ κs a. tt, λ κs a. tt)
 
-pub exact-terms-asks-nothing :
+pub exact_terms_asks_nothing :
     Answers exact_terms.add.ended exact_terms.add.Reads.Pre
     × Answers exact_terms.mul.ended exact_terms.mul.Reads.Pre
     × Answers exact_terms.mul_add.ended exact_terms.mul_add.Reads.Pre
-exact-terms-asks-nothing = (λ κs a. tt, λ κs a. tt, λ κs a. tt)
+exact_terms_asks_nothing = (λ κs a. tt, λ κs a. tt, λ κs a. tt)
 
-pub division-asks-nothing :
+pub division_asks_nothing :
     Answers division.div.ended division.div.Reads.Pre
-division-asks-nothing = λ κs a. tt
+division_asks_nothing = λ κs a. tt
 
-pub square-root-asks-nothing :
+pub square_root_asks_nothing :
     Answers square_root.sqrt.ended square_root.sqrt.Reads.Pre
-square-root-asks-nothing = λ κs a. tt
+square_root_asks_nothing = λ κs a. tt
 
-pub p32e2-asks-nothing :
+pub p32e2_asks_nothing :
     Answers p32e2.P32E2.from_bits.ended p32e2.P32E2.from_bits.Reads.Pre
     × Answers p32e2.P32E2.to_bits.ended p32e2.P32E2.to_bits.Reads.Pre
     × Answers p32e2.P32E2.is_zero.ended p32e2.P32E2.is_zero.Reads.Pre
@@ -54,9 +54,9 @@ pub p32e2-asks-nothing :
     × Answers p32e2.P32E2.sub.ended p32e2.P32E2.sub.Reads.Pre
     × Answers p32e2.P32E2.mul.ended p32e2.P32E2.mul.Reads.Pre
     × Answers p32e2.P32E2.div.ended p32e2.P32E2.div.Reads.Pre
-p32e2-asks-nothing = (λ κs a. tt, λ κs a. tt, λ κs a. tt, λ κs a. tt, λ κs a. tt, λ κs a. tt, λ κs a. tt, λ κs a. tt, λ κs a. tt, λ κs a. tt, λ κs a. tt, λ κs a. tt, λ κs a. tt, λ κs a. tt, λ κs a. tt)
+p32e2_asks_nothing = (λ κs a. tt, λ κs a. tt, λ κs a. tt, λ κs a. tt, λ κs a. tt, λ κs a. tt, λ κs a. tt, λ κs a. tt, λ κs a. tt, λ κs a. tt, λ κs a. tt, λ κs a. tt, λ κs a. tt, λ κs a. tt, λ κs a. tt)
 
-pub quire-words-asks-nothing :
+pub quire_words_asks_nothing :
     Answers quire_words.add_word.ended quire_words.add_word.Reads.Pre
     × Answers quire_words.add.ended quire_words.add.Reads.Pre
     × Answers quire_words.complement.ended quire_words.complement.Reads.Pre
@@ -65,9 +65,9 @@ pub quire-words-asks-nothing :
     × Answers quire_words.any_from.ended quire_words.any_from.Reads.Pre
     × Answers quire_words.is_alone.ended quire_words.is_alone.Reads.Pre
     × Answers quire_words.sign_of.ended quire_words.sign_of.Reads.Pre
-quire-words-asks-nothing = (λ κs a. tt, λ κs a. tt, λ κs a. tt, λ κs a. tt, λ κs a. tt, λ κs a. tt, λ κs a. tt, λ κs a. tt)
+quire_words_asks_nothing = (λ κs a. tt, λ κs a. tt, λ κs a. tt, λ κs a. tt, λ κs a. tt, λ κs a. tt, λ κs a. tt, λ κs a. tt)
 
-pub quire-steps-asks-nothing :
+pub quire_steps_asks_nothing :
     Answers quire_steps.add_product.ended quire_steps.add_product.Reads.Pre
     × Answers quire_steps.sub_product.ended quire_steps.sub_product.Reads.Pre
     × Answers quire_steps.add_posit.ended quire_steps.add_posit.Reads.Pre
@@ -81,15 +81,15 @@ pub quire-steps-asks-nothing :
     × Answers quire_steps.is_nar.ended quire_steps.is_nar.Reads.Pre
     × Answers quire_steps.cleared.ended quire_steps.cleared.Reads.Pre
     × Answers quire_steps.from_posit.ended quire_steps.from_posit.Reads.Pre
-quire-steps-asks-nothing = (λ κs a. tt, λ κs a. tt, λ κs a. tt, λ κs a. tt, λ κs a. tt, λ κs a. tt, λ κs a. tt, λ κs a. tt, λ κs a. tt, λ κs a. tt, λ κs a. tt, λ κs a. tt, λ κs a. tt)
+quire_steps_asks_nothing = (λ κs a. tt, λ κs a. tt, λ κs a. tt, λ κs a. tt, λ κs a. tt, λ κs a. tt, λ κs a. tt, λ κs a. tt, λ κs a. tt, λ κs a. tt, λ κs a. tt, λ κs a. tt, λ κs a. tt)
 
-pub quire-totals-asks-nothing :
+pub quire_totals_asks_nothing :
     Answers quire_totals.to_posit.ended quire_totals.to_posit.Reads.Pre
     × Answers quire_totals.two_posits.ended quire_totals.two_posits.Reads.Pre
     × Answers quire_totals.three_posits.ended quire_totals.three_posits.Reads.Pre
-quire-totals-asks-nothing = (λ κs a. tt, λ κs a. tt, λ κs a. tt)
+quire_totals_asks_nothing = (λ κs a. tt, λ κs a. tt, λ κs a. tt)
 
-pub quire32-asks-nothing :
+pub quire32_asks_nothing :
     Answers quire32.Q32E2.init.ended quire32.Q32E2.init.Reads.Pre
     × Answers quire32.Q32E2.from_bits.ended quire32.Q32E2.from_bits.Reads.Pre
     × Answers quire32.Q32E2.from_posit.ended quire32.Q32E2.from_posit.Reads.Pre
@@ -108,9 +108,9 @@ pub quire32-asks-nothing :
     × AnswersLent quire32.Q32E2.qAddQ.ended (λ M 𝓤. quire32.Q32E2.qAddQ.clauses 𝓤)
     × AnswersLent quire32.Q32E2.qSubQ.ended (λ M 𝓤. quire32.Q32E2.qSubQ.clauses 𝓤)
     × AnswersLent quire32.Q32E2.clear.ended (λ M 𝓤. quire32.Q32E2.clear.clauses 𝓤)
-quire32-asks-nothing = (λ κs a. tt, λ κs a. tt, λ κs a. tt, λ κs a. tt, λ κs a. tt, λ M 𝓤 𝓛 mem run κs a. (tt, refl), λ M 𝓤 𝓛 mem run κs a. (tt, refl), λ M 𝓤 𝓛 mem run κs a. (tt, refl), λ M 𝓤 𝓛 mem run κs a. (tt, refl), λ M 𝓤 𝓛 mem run κs a. (tt, refl), λ M 𝓤 𝓛 mem run κs a. (tt, refl), λ M 𝓤 𝓛 mem run κs a. (tt, refl), λ M 𝓤 𝓛 mem run κs a. (tt, refl), λ M 𝓤 𝓛 mem run κs a. (tt, refl), λ M 𝓤 𝓛 mem run κs a. (tt, refl), λ M 𝓤 𝓛 mem run κs a. (tt, refl), λ M 𝓤 𝓛 mem run κs a. (tt, refl), λ M 𝓤 𝓛 mem run κs a. (tt, refl))
+quire32_asks_nothing = (λ κs a. tt, λ κs a. tt, λ κs a. tt, λ κs a. tt, λ κs a. tt, λ M 𝓤 𝓛 mem run κs a. (tt, refl), λ M 𝓤 𝓛 mem run κs a. (tt, refl), λ M 𝓤 𝓛 mem run κs a. (tt, refl), λ M 𝓤 𝓛 mem run κs a. (tt, refl), λ M 𝓤 𝓛 mem run κs a. (tt, refl), λ M 𝓤 𝓛 mem run κs a. (tt, refl), λ M 𝓤 𝓛 mem run κs a. (tt, refl), λ M 𝓤 𝓛 mem run κs a. (tt, refl), λ M 𝓤 𝓛 mem run κs a. (tt, refl), λ M 𝓤 𝓛 mem run κs a. (tt, refl), λ M 𝓤 𝓛 mem run κs a. (tt, refl), λ M 𝓤 𝓛 mem run κs a. (tt, refl), λ M 𝓤 𝓛 mem run κs a. (tt, refl))
 
-pub desk-asks-nothing :
+pub desk_asks_nothing :
     Answers desk.image.image_of.ended desk.image.image_of.Reads.Pre
     × Answers desk.image.write_image.ended desk.image.write_image.Reads.Pre
     × Answers desk.image.read_image.ended desk.image.read_image.Reads.Pre
@@ -123,9 +123,9 @@ pub desk-asks-nothing :
     × AnswersLent desk.lent.write_image.ended (λ M 𝓤. desk.lent.write_image.clauses 𝓤)
     × AnswersLent desk.lent.read_image.ended (λ M 𝓤. desk.lent.read_image.clauses 𝓤)
     × AnswersLent desk.lent.add_batch.ended (λ M 𝓤. desk.lent.add_batch.clauses 𝓤)
-desk-asks-nothing = (λ κs a. tt, λ κs a. tt, λ κs a. tt, λ κs a. tt, λ κs a. tt, λ κs a. tt, λ κs a. tt, λ κs a. tt, λ κs a. tt, λ M 𝓤 𝓛 mem run κs a. (tt, refl), λ M 𝓤 𝓛 mem run κs a. (tt, refl), λ M 𝓤 𝓛 mem run κs a. (tt, refl))
+desk_asks_nothing = (λ κs a. tt, λ κs a. tt, λ κs a. tt, λ κs a. tt, λ κs a. tt, λ κs a. tt, λ κs a. tt, λ κs a. tt, λ κs a. tt, λ M 𝓤 𝓛 mem run κs a. (tt, refl), λ M 𝓤 𝓛 mem run κs a. (tt, refl), λ M 𝓤 𝓛 mem run κs a. (tt, refl))
 
-pub capi-posits-asks-nothing :
+pub capi_posits_asks_nothing :
     Answers capi.posits.stallhitch_p32e2_neg.ended capi.posits.stallhitch_p32e2_neg.Reads.Pre
     × Answers capi.posits.stallhitch_p32e2_add.ended capi.posits.stallhitch_p32e2_add.Reads.Pre
     × Answers capi.posits.stallhitch_p32e2_sub.ended capi.posits.stallhitch_p32e2_sub.Reads.Pre
@@ -136,9 +136,9 @@ pub capi-posits-asks-nothing :
     × Answers capi.posits.stallhitch_p32e2_mul_add.ended capi.posits.stallhitch_p32e2_mul_add.Reads.Pre
     × Answers capi.posits.stallhitch_p32e2_mul_sub.ended capi.posits.stallhitch_p32e2_mul_sub.Reads.Pre
     × Answers capi.posits.stallhitch_p32e2_sub_product.ended capi.posits.stallhitch_p32e2_sub_product.Reads.Pre
-capi-posits-asks-nothing = (λ κs a. tt, λ κs a. tt, λ κs a. tt, λ κs a. tt, λ κs a. tt, λ κs a. tt, λ κs a. tt, λ κs a. tt, λ κs a. tt, λ κs a. tt)
+capi_posits_asks_nothing = (λ κs a. tt, λ κs a. tt, λ κs a. tt, λ κs a. tt, λ κs a. tt, λ κs a. tt, λ κs a. tt, λ κs a. tt, λ κs a. tt, λ κs a. tt)
 
-pub capi-accumulators-asks-nothing :
+pub capi_accumulators_asks_nothing :
     Answers capi.accumulators.stallhitch_q32e2_clear.ended capi.accumulators.stallhitch_q32e2_clear.Reads.Pre
     × Answers capi.accumulators.stallhitch_q32e2_add_product.ended capi.accumulators.stallhitch_q32e2_add_product.Reads.Pre
     × Answers capi.accumulators.stallhitch_q32e2_sub_product.ended capi.accumulators.stallhitch_q32e2_sub_product.Reads.Pre
@@ -151,11 +151,11 @@ pub capi-accumulators-asks-nothing :
     × Answers capi.accumulators.stallhitch_q32e2_to_posit.ended capi.accumulators.stallhitch_q32e2_to_posit.Reads.Pre
     × Answers capi.accumulators.stallhitch_q32e2_is_zero.ended capi.accumulators.stallhitch_q32e2_is_zero.Reads.Pre
     × Answers capi.accumulators.stallhitch_q32e2_is_nar.ended capi.accumulators.stallhitch_q32e2_is_nar.Reads.Pre
-capi-accumulators-asks-nothing = (λ κs a. tt, λ κs a. tt, λ κs a. tt, λ κs a. tt, λ κs a. tt, λ κs a. tt, λ κs a. tt, λ κs a. tt, λ κs a. tt, λ κs a. tt, λ κs a. tt, λ κs a. tt)
+capi_accumulators_asks_nothing = (λ κs a. tt, λ κs a. tt, λ κs a. tt, λ κs a. tt, λ κs a. tt, λ κs a. tt, λ κs a. tt, λ κs a. tt, λ κs a. tt, λ κs a. tt, λ κs a. tt, λ κs a. tt)
 
-pub capi-claims-asks-nothing :
+pub capi_claims_asks_nothing :
     Answers capi.claims.stallhitch_write_image.ended capi.claims.stallhitch_write_image.Reads.Pre
     × Answers capi.claims.stallhitch_read_image.ended capi.claims.stallhitch_read_image.Reads.Pre
     × Answers capi.claims.stallhitch_add_batch.ended capi.claims.stallhitch_add_batch.Reads.Pre
     × Answers capi.claims.stallhitch_check_claim.ended capi.claims.stallhitch_check_claim.Reads.Pre
-capi-claims-asks-nothing = (λ κs a. tt, λ κs a. tt, λ κs a. tt, λ κs a. tt)
+capi_claims_asks_nothing = (λ κs a. tt, λ κs a. tt, λ κs a. tt, λ κs a. tt)

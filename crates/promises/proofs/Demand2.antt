@@ -83,9 +83,9 @@ totals_proper t = result_proper t
 -- ---- "the accumulator holds the exact sum or NaR"
 
 -- the words z that a history leads to: it keeps both premises or leaves them at a first place
-pub holds-exact-sum-or-nar :
+pub holds_exact_sum_or_nar :
     (h : History) (by : Routes h) (z : List ℕ) → OfPatterns h → Runs h by z → (Keeps h × (from_words 512 z ≡ total (total_of h))) ⊎ (Leaves h × (from_words 512 z ≡ not_real))
-holds-exact-sum-or-nar h by z p runs =
+holds_exact_sum_or_nar h by z p runs =
     let held : from_words 512 z ≡ after h = run_leads h by z runs in
     ⊎_elim (λ k. inl (k, held ∙ exact_after h k.0 k.1)) (λ l. inr (l, held ∙ leaves_nar h l)) (keeps_or_leaves h p)
 

@@ -20,14 +20,14 @@ use Rattle.promises.specs.Outside.{Leaves}
 use Rattle.promises.specs.Ways.{Way, Place, at, accumulator, EightWords, ImageBytes, an_accumulator, Moved, SaysZero, to_bits_lent}
 use Rattle.promises.specs.Asked.{Adding, Claiming}
 use Rattle.promises.specs.Run.{Writer, ImageOf, ReadOf, Routes, Route, Leads, Runs, Image, Reached}
-use Rattle.promises.proofs.Said.{adds-says, claims_says}
+use Rattle.promises.proofs.Said.{adds_says, claims_says}
 use Rattle.promises.proofs.Refusals.{claim_right}
 use Rattle.promises.proofs.Tracked.{after, stepped, after_held, image_back, can_show, can_lead, runs_state, run_leads, can_run, shown, can_show_history, turns_passed, batch_after}
 use Rattle.promises.proofs.Totals.{exact_after, total_is_real, total_one, image_total}
 use Rattle.promises.proofs.Counted.{total_at_most, not_away, few_away_stay, few_steps_few_away}
 use Rattle.promises.proofs.Typed.{words_typed, image_typed, words_back, words_held}
 use Rattle.promises.proofs.Reach.{reach, led_to, one_step_more}
-use Rattle.promises.proofs.Boxes.{boxes-lead, sums-alike, either_order, total_joined, total_without_turns}
+use Rattle.promises.proofs.Boxes.{boxes_lead, sums_alike, either_order, total_joined, total_without_turns}
 use Rattle.promises.proofs.Left as left
 use Rattle.promises.proofs.Demand2.{zero_said_exactly}
 
@@ -105,30 +105,30 @@ words_handed_over q r κs m into z out = out ∙ into
 
 -- Both images are read at the head end and joined there, added or taken: what comes out is the image of the one history that joins them, whatever the ways, and whether or not the
 -- premises hold.
-pub images-joined :
+pub images_joined :
     (d : Direction) (h k : History) (bs cs ds q p r : List ℕ) (first second way : Way) (w : Writer)
     → Image h bs → Image k cs → ReadOf first bs q → ReadOf second cs p → Moved way d (an_accumulator p) q r → ImageOf w r ds → Image (h then move d (a_history k)) ds
-images-joined = boxes-lead
+images_joined = boxes_lead
 
 -- where each box keeps the premises and the sum is in range, so does the joined history, and its total is the sum
 pub joined_keeps : (h k : History) → Keeps h → Keeps k → Within (total_of h +ℤ total_of k) → Keeps (joined h k) × (total_of (joined h k) ≡ total_of h +ℤ total_of k)
 joined_keeps h k (n, s) (m, l) w = let e = total_joined h k in (((n, m, tt), (s, l, subst Within (sym e) w)), e)
 
 -- so what comes out is the image of that sum
-pub household-total :
+pub household_total :
     (h k : History) (bs cs ds q p r : List ℕ) (first second way : Way) (w : Writer) → Keeps h → Keeps k → Within (total_of h +ℤ total_of k)
     → Image h bs → Image k cs → ReadOf first bs q → ReadOf second cs p → Moved way added (an_accumulator p) q r → ImageOf w r ds → ds ≡ image 512 (total (total_of h +ℤ total_of k))
-household-total h k bs cs ds q p r first second way w kh kk sum i j read read' moved shows =
+household_total h k bs cs ds q p r first second way w kh kk sum i j read read' moved shows =
     let kept = joined_keeps h k kh kk sum in
-    image_of_total (joined h k) ds kept.0 (images-joined added h k bs cs ds q p r first second way w i j read read' moved shows) ∙ ap (λ (t : ℤ). image 512 (total t)) kept.1
+    image_of_total (joined h k) ds kept.0 (images_joined added h k bs cs ds q p r first second way w i j read read' moved shows) ∙ ap (λ (t : ℤ). image 512 (total t)) kept.1
 
 -- either image first: the same 64 bytes, of any two images, in range or not
-pub images-in-either-order :
+pub images_in_either_order :
     (bs cs ds es q p r q' p' r' : List ℕ) (first second way first' second' way' : Way) (w w' : Writer) → ImageBytes bs → ImageBytes cs
     → ReadOf first bs q → ReadOf second cs p → Moved way added (an_accumulator p) q r → ImageOf w r ds
     → ReadOf first' cs p' → ReadOf second' bs q' → Moved way' added (an_accumulator q') p' r' → ImageOf w' r' es
     → ds ≡ es
-images-in-either-order = sums-alike
+images_in_either_order = sums_alike
 
 -- either history first
 pub joined_in_either_order : (h k : History) (bs cs : List ℕ) → Image (joined h k) bs → Image (joined k h) cs → bs ≡ cs
@@ -172,7 +172,7 @@ exact_total_or_nar h bs p i = ⊎_elim (λ k. inl (k, image_of_total h bs k i)) 
 -- a batch that is accepted leaves what its products leave, added one by one by any routes, after whatever history
 pub batch_adds_its_products : (way : Way) (h : History) (by : Routes h) (xs ys q r z : List ℕ) (routes : Routes (products h xs ys)) → Runs h by q → Adding way q xs ys 0 r → Runs (products h xs ys) routes z → z ≡ r
 batch_adds_its_products way h by xs ys q r z routes before adds runs =
-    let s = adds-says way q xs ys 0 r adds in
+    let s = adds_says way q xs ys 0 r adds in
     let held = run_leads h by q before in
     runs_state (products h xs ys) routes z runs
     ∙ sym (s.1 ∙ ap (words 512) (batch_done xs ys (from_words 512 q) (sym s.0) ∙ ap (λ S. batch 2 31 512 S xs ys) held ∙ batch_after h xs ys))

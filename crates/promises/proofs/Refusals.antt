@@ -61,12 +61,12 @@ pub bytes_due : (bs : List ℕ) → Due (read_rows bs) (length_refusal 512 bs)
 bytes_due bs = length_due [] bs (length_refusal 512 bs) (λ o. (other_length clear bs o).0) (λ e. (right_length clear bs e).0)
 
 -- the two rows of a batch first, and then whatever follows where neither applies
-lists-due :
+lists_due :
     (rows : List Row) (xs ys : List ℕ) (n : ℕ)
     → ((k : ℕ) → batch_refusal xs ys ≡ k → k ≢ 0 → n ≡ k)
     → (batch_refusal xs ys ≡ 0 → Due rows n)
     → Due (unequal_lists xs ys ∷ too_many_pairs xs ∷ rows) n
-lists-due rows xs ys n first rest = go (ℕ_discrete (length xs) (length ys)) (dec_lt pair_limit (length xs))
+lists_due rows xs ys n first rest = go (ℕ_discrete (length xs) (length ys)) (dec_lt pair_limit (length xs))
   where
     go : Dec (length xs ≡ length ys) → Dec (pair_limit < length xs) → Due (unequal_lists xs ys ∷ too_many_pairs xs ∷ rows) n
     go (no o) _ = inl (o, first 3 (unequal xs ys o) (λ z. omega arith))
@@ -74,7 +74,7 @@ lists-due rows xs ys n first rest = go (ℕ_discrete (length xs) (length ys)) (d
     go (yes e) (no l) = inr ((λ o. o e), inr (l, rest (no_refusal xs ys e (omega arith))))
 
 pub batch_due : (xs ys : List ℕ) → Due (batch_rows xs ys) (batch_refusal xs ys)
-batch_due xs ys = lists-due [] xs ys (batch_refusal xs ys) (λ k e o. e) (λ e. e)
+batch_due xs ys = lists_due [] xs ys (batch_refusal xs ys) (λ k e o. e) (λ e. e)
 
 -- a list is the same as itself
 both : (a b : Bool) → T a → T b → T (a && b)
@@ -98,7 +98,7 @@ image_due xs ys cs e l = go (same rebuilt cs) refl
 
 pub claim_due : (xs ys cs : List ℕ) → Due (claim_rows xs ys cs) (claim_refusal 2 31 512 xs ys cs)
 claim_due xs ys cs =
-    lists-due (not_of64_bytes cs ∷ other_image xs ys cs ∷ []) xs ys (claim_refusal 2 31 512 xs ys cs) (claim_refused xs ys cs)
+    lists_due (not_of64_bytes cs ∷ other_image xs ys cs ∷ []) xs ys (claim_refusal 2 31 512 xs ys cs) (claim_refused xs ys cs)
     (λ e. length_due (other_image xs ys cs ∷ []) cs (claim_refusal 2 31 512 xs ys cs) (claim_of_other_length xs ys cs e) (image_due xs ys cs e))
 
 -- ---- what a refusal leaves as it was

@@ -166,18 +166,18 @@ reads_met by_value q bs x e = (one_lifetime, somewhere, x, (e, refl), refl)
 reads_met lent q bs x e = (two_lifetimes, somewhere, elsewhere, x, (e, refl), refl)
 reads_met for_c q bs x e = (two_lifetimes, somewhere, elsewhere, (e, refl))
 
-pub adds-says :
+pub adds_says :
     (way : Way) (q xs ys : List ℕ) (n : ℕ) (r : List ℕ) → Adding way q xs ys n r → (n ≡ batch_refusal xs ys) × (r ≡ words 512 (after_batch 2 31 512 (from_words 512 q) xs ys))
-adds-says by_value q xs ys n r (κs, l, m, x, p, e) = (sym e ∙ p.0, p.1)
-adds-says lent q xs ys n r (κs, k, l, m, x, p, e) = (sym e ∙ p.0, p.1)
-adds-says for_c q xs ys n r (κs, k, l, m, p) = p
+adds_says by_value q xs ys n r (κs, l, m, x, p, e) = (sym e ∙ p.0, p.1)
+adds_says lent q xs ys n r (κs, k, l, m, x, p, e) = (sym e ∙ p.0, p.1)
+adds_says for_c q xs ys n r (κs, k, l, m, p) = p
 
-pub adds-met :
+pub adds_met :
     (way : Way) (q xs ys : List ℕ) (x : BatchAnswer) → batch_number x ≡ batch_refusal xs ys
     → Adding way q xs ys (batch_number x) (words 512 (after_batch 2 31 512 (from_words 512 q) xs ys))
-adds-met by_value q xs ys x e = (two_lifetimes, somewhere, elsewhere, x, (e, refl), refl)
-adds-met lent q xs ys x e = (three_lifetimes, somewhere, elsewhere, farther_on, x, (e, refl), refl)
-adds-met for_c q xs ys x e = (three_lifetimes, somewhere, elsewhere, farther_on, (e, refl))
+adds_met by_value q xs ys x e = (two_lifetimes, somewhere, elsewhere, x, (e, refl), refl)
+adds_met lent q xs ys x e = (three_lifetimes, somewhere, elsewhere, farther_on, x, (e, refl), refl)
+adds_met for_c q xs ys x e = (three_lifetimes, somewhere, elsewhere, farther_on, (e, refl))
 
 pub claims_says : (way : Way) (xs ys cs : List ℕ) (n : ℕ) → Claiming way xs ys cs n → n ≡ claim_refusal 2 31 512 xs ys cs
 claims_says by_value xs ys cs n (κs, k, l, m, x, p, e) = sym e ∙ p

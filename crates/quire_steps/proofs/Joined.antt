@@ -1,5 +1,5 @@
 -- The total of another accumulator as what a step brings: its words, or their complement and one, are what an operand with its size and sign would write (`words_bring`), so that
--- the sum is judged as after any step (`joined-bits`). And a total without its sign (`size_bits`).
+-- the sum is judged as after any step (`joined_bits`). And a total without its sign (`size_bits`).
 use mathlib.Core.Path.{◌≡◌, sym, ap, ◌∙◌}
 use mathlib.Core.Logic.{◌≢◌}
 use mathlib.Core.Bool.{Bool, true, false, cond, not, beq}
@@ -59,9 +59,9 @@ module _ (H v : ℕ) (ne : v ≢ H) (l : v < 2 * H) where
 -- ws are the words of the one, vs those of the other, and z the number of the sum
 module _ (added : Bool) (ws vs : List ℕ) (z : ℕ) (ne : wide ws ≢ 2 ^ 511) (short : wide ws < 2 ^ 512) (ne' : wide vs ≢ 2 ^ 511) (short' : wide vs < 2 ^ 512)
     (sum : z ≡ (wide ws + turned (not added) (2 ^ 512 - 1) (wide vs) + bool_byte (not added)) % 2 ^ 512) where
-  pub joined-bits :
+  pub joined_bits :
       cond (escaped (leb (2 ^ 511) (wide ws)) (beq (leb (2 ^ 511) (wide vs)) added) (leb (2 ^ 511) z)) (2 ^ 511) z ≡ bits_of 512 (moved added (from_words 512 ws) (from_words 512 vs))
-  joined-bits =
+  joined_bits =
       let s = leb (2 ^ 511) (wide vs) in
       let m = nat_abs (reading (2 ^ 511) (wide vs)) in
       stepped_bits (beq s added) ws m z ne short (size_below (2 ^ 511) (wide vs) ne' short') (sum ∙ ap (λ (n : ℕ). n % 2 ^ 512) (words_bring (2 ^ 511) (wide vs) ne' short' added (wide ws)))
