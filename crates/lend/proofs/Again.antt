@@ -6,7 +6,7 @@ use Prim.Native.Nat.{ℕ, zero, suc}
 use mathlib.Core.List.{List, [], ◌∷◌}
 use lib.Dec.{T}
 use seplogic.Ra.Ura.{Ura}
-use seplogic.Ra.TreeShare.{full_share}
+use base.Fraction.{full_share}
 use mir.Syntax.{Lifetime, erased, mut, Ty, ty_ref, place, deref, field, Opd as Operand, copy, Rv as RValue, addr_of, aggregate, Body, seq, assign}
 use mir.Val.{Val, vptr, WT, has_ty}
 use base.Logic.{SProp, ent, sep, id⊢, via, assoc∗, mono∗, mono_l, mono_r, snd∗}

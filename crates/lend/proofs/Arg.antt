@@ -10,7 +10,7 @@ use seplogic.Ra.Ura.{Ura}
 use mir.Syntax.{Lifetime, named, erased, imm, mut, Ty, ty_ref, Written, wrote}
 use mir.Val.{Val}
 use base.Stored.{Coded, coded_list}
-use base.Fml.{Fml}
+use base.Fml.{Fml, Lft}
 use types.Logic.{Logic}
 use contract.Lifetimes.{Lfts, Within, lft_at}
 use denote.RattleType.{RattleType}
@@ -34,9 +34,11 @@ pub record Arg (n : ℕ) : Type 2 where
   pub ty : Lifetime → Ty
   pub written : Lifetime → Written
   pub reaches : List (Written × List Ty)
+  pub lives : Lfts n → Lft
   pub own : Lfts n → D → List Val → Fml
   pub exit : Bool → Exit D
   pub coded : Coded D
+  pub shr_at : Lfts n → D → ℕ → ℕ → Lft → Fml
   pub val : D → Val
   pub tells : (κs : Lfts n) (d : D) (vs : List Val) → shadow (own κs d vs) → vs ≡ val d ∷ []
   pub typed : {M : Type 1} {𝓤 : Ura M} (𝓛 : Logic 𝓤) → (ℓ : Lifetime) (κs : Lfts n) (d : D) (vs : List Val) → shadow (own κs d vs) → Typed (ty ℓ ∷ []) vs
@@ -44,7 +46,7 @@ pub record Arg (n : ℕ) : Type 2 where
 
 module _ {n : ℕ} where
   abbrev pub row_at : Arg n → ℕ → Lfts n → RattleType
-  row_at X s κs = record { Denot = X.D; mir = X.ty (X.lifetime s) ∷ []; written = X.written (X.lifetime s); reaches = X.reaches; own_val = X.own κs; exit = λ k. X.exit (k (X.lifetime s)); coded = X.coded }
+  row_at X s κs = record { Denot = X.D; mir = X.ty (X.lifetime s) ∷ []; written = X.written (X.lifetime s); reaches = X.reaches; lives = X.lives κs; own_val = X.own κs; exit = λ k. X.exit (k (X.lifetime s)); coded = X.coded; shr_at = X.shr_at κs }
 
   abbrev pub value : Solid → Arg n
   value S = record {
@@ -53,9 +55,11 @@ module _ {n : ℕ} where
     ty = λ _. S.ty;
     written = λ _. S.written;
     reaches = S.reaches;
+    lives = λ _. S.lives;
     own = λ _. S.own;
     exit = λ _. unchanged;
     coded = S.coded;
+    shr_at = λ _. S.shr_at;
     val = S.val;
     tells = λ _. S.tells;
     typed = λ 𝓛 _ _. S.typed 𝓛;
@@ -69,9 +73,11 @@ module _ {n : ℕ} where
     ty = λ ℓ. slice_ty (ty_ref ℓ imm (pointee S.written));
     written = λ ℓ. wrote (slice_ty (ty_ref ℓ imm (pointee S.written)));
     reaches = (S.written, S.ty ∷ []) ∷ S.reaches;
+    lives = λ κs. (ShrSlice erased (lft_at n j ok κs) (row_of S)).lives;
     own = λ κs. (ShrSlice erased (lft_at n j ok κs) (row_of S)).own_val;
     exit = λ _. unchanged;
     coded = shr_coded (coded_list S.coded);
+    shr_at = λ κs. (ShrSlice erased (lft_at n j ok κs) (row_of S)).shr_at;
     val = λ x. slice_val x.ref_ptr (length x.now);
     tells = λ κs. shr_slice_Tells erased (lft_at n j ok κs) (row_of S);
     typed = λ 𝓛 ℓ κs. (shr_slice_Lawful 𝓛 ℓ (lft_at n j ok κs) (row_of S)).typed;
@@ -85,9 +91,11 @@ module _ {n : ℕ} where
     ty = λ ℓ. slice_ty (ty_ref ℓ mut (pointee S.written));
     written = λ ℓ. wrote (slice_ty (ty_ref ℓ mut (pointee S.written)));
     reaches = (S.written, S.ty ∷ []) ∷ S.reaches;
+    lives = λ κs. (MutSlice erased (lft_at n j ok κs) (row_of S)).lives;
     own = λ κs. (MutSlice erased (lft_at n j ok κs) (row_of S)).own_val;
     exit = λ kept. (MutSlice erased [] (row_of S)).exit (λ _. kept);
     coded = mut_coded (coded_list S.coded);
+    shr_at = λ κs. (MutSlice erased (lft_at n j ok κs) (row_of S)).shr_at;
     val = λ x. slice_val x.ref_ptr (length x.now);
     tells = λ κs. mut_slice_Tells erased (lft_at n j ok κs) (row_of S);
     typed = λ 𝓛 ℓ κs. (mut_slice_Lawful 𝓛 ℓ (lft_at n j ok κs) (row_of S)).typed;

@@ -9,7 +9,7 @@ use mathlib.Core.Bool.{true}
 use Prim.Native.Nat.{ℕ, zero, suc}
 use mathlib.Core.List.{List, [], ◌∷◌, ◌++◌}
 use seplogic.Ra.Ura.{Ura}
-use seplogic.Ra.TreeShare.{full_share}
+use base.Fraction.{full_share}
 use mir.Syntax.{Ty}
 use base.Logic.{SProp, ent, emp, id⊢, mono∗, mono_r}
 use base.Fml.{Fml, ftrue, fsep, fat}

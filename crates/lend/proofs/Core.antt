@@ -4,8 +4,8 @@ use mathlib.Core.Path.{refl, sym, ap, subst}
 use Prim.Native.Nat.{ℕ, zero, suc}
 use mathlib.Core.List.{List, [], ◌∷◌}
 use seplogic.Ra.Ura.{Ura}
-use seplogic.Ra.TreeShare.{full_share}
-use mir.Syntax.{Name, Ty, Place, place, deref, field, copy, rv_opd, Opd as Operand, Body, seq, assign, call}
+use base.Fraction.{full_share}
+use mir.Syntax.{Callee, Ty, Place, place, deref, field, copy, rv_opd, Opd as Operand, Body, seq, assign, call}
 use mir.Val.{Val, vptr}
 use base.Logic.{ent, emp, id⊢, via, emp∗, snd∗, mono∗}
 use base.Fml.{Share, fat}
@@ -50,7 +50,7 @@ module _ {n : ℕ} (Ys : List (Arg n)) (Z : Solid) where
       abbrev pub at : (κs : Lfts n) → Shares n → Values Ys → Core.Ghost
       at κs qs m = ((κs, qs, tt, put own_seat κs Ys m, machines own_seat κs Ys (put own_seat κs Ys m)), tt)
 
-module _ {M : Type 1} {𝓤 : Ura M} {𝓛 : Logic 𝓤} {K : Type 0} {Γ : List (Item 𝓤)} {C : Calls 𝓤 𝓛.H} {Λ : Loops 𝓤 𝓛.H} {f : Name} {q : Post 𝓤 𝓛.H} {d : Place} {rest : Body} {n : ℕ} where
+module _ {M : Type 1} {𝓤 : Ura M} {𝓛 : Logic 𝓤} {K : Type 0} {Γ : List (Item 𝓤)} {C : Calls 𝓤 𝓛.H} {Λ : Loops 𝓤 𝓛.H} {f : Callee} {q : Post 𝓤 𝓛.H} {d : Place} {rest : Body} {n : ℕ} where
   -- [the lifetimes' tokens; what the arguments own] before, and [the tokens; what is said of the arguments] after
   open 𝓛 use {H}
 
@@ -96,7 +96,7 @@ module _ {n : ℕ} {S F : Solid} (O : Holds S F) (Xs : List (Arg n)) where
   Copied with-field = F.ty ∷ copies Xs
   Copied without = copies Xs
 
-  abbrev pub calling : Hands → ℕ → ℕ → Name → Place → Body → Body
+  abbrev pub calling : Hands → ℕ → ℕ → Callee → Place → Body → Body
   calling with-field k l f d rest = seq (assign (place k []) (rv_opd (copy (self_0 S)))) (lending 2 l Xs (seq (call f (copy (place k []) ∷ operands 2 l Xs) d) rest))
   calling without k l f d rest = lending 2 l Xs (seq (call f (operands 2 l Xs) d) rest)
 
@@ -144,7 +144,7 @@ module _ {n : ℕ} {S F : Solid} (O : Holds S F) (Xs : List (Arg n)) where
       left_over with-field w ws = via 𝓤 _ (snd∗ 𝓤 (emp 𝓤) _) (given_up 𝓛 κs Xs a ws.1)
       left_over without w ws = given_up 𝓛 κs Xs a ws
 
-  module _ {M : Type 1} {𝓤 : Ura M} {𝓛 : Logic 𝓤} {K : Type 0} {Γ : List (Item 𝓤)} {C : Calls 𝓤 𝓛.H} {Λ : Loops 𝓤 𝓛.H} {f : Name} {p : Post 𝓤 𝓛.H} {d : Place} {rest : Body} {E : Env 𝓤 𝓛.H} {xs : List Operand} where
+  module _ {M : Type 1} {𝓤 : Ura M} {𝓛 : Logic 𝓤} {K : Type 0} {Γ : List (Item 𝓤)} {C : Calls 𝓤 𝓛.H} {Λ : Loops 𝓤 𝓛.H} {f : Callee} {p : Post 𝓤 𝓛.H} {d : Place} {rest : Body} {E : Env 𝓤 𝓛.H} {xs : List Operand} where
     -- the arguments are copied where they are lent again, and the core is called. Its operands xs are the arguments' or, by `front`, also the field's
     open 𝓛 use {H}
 
@@ -164,7 +164,7 @@ module _ {n : ℕ} {S F : Solid} (O : Holds S F) (Xs : List (Arg n)) where
         move t (1 ∷ []) $ use1 𝓛 (‵ (had κs Xs a (over κs Xs a (among κs a u w ws)))) (left_over κs a 𝓛 u w ws) $ move t (3 ∷ []) $ use1 𝓛 (‵ (rooms (copies Xs) ts)) (dropped 𝓛 Xs ts (m κs a)) $ move t (3 ∷ 0 ∷ 2 ∷ 1 ∷ []) $
         next z (over κs Xs a (among κs a u w ws)) (learned κs a u w (λ m' e'. Ens m' z e') ws e) z_fits)
 
-module _ {n : ℕ} {S F : Solid} (O : Holds S F) (Φ : Frame n) (ls : Laid Φ) {M : Type 1} {𝓤 : Ura M} {𝓛 : Logic 𝓤} {K : Type 0} {Γ : List (Item 𝓤)} {C : Calls 𝓤 𝓛.H} {Λ : Loops 𝓤 𝓛.H} {f : Name} {p : Post 𝓤 𝓛.H} {d : Place} {rest : Body} {b o : ℕ} {q : Share} where
+module _ {n : ℕ} {S F : Solid} (O : Holds S F) (Φ : Frame n) (ls : Laid Φ) {M : Type 1} {𝓤 : Ura M} {𝓛 : Logic 𝓤} {K : Type 0} {Γ : List (Item 𝓤)} {C : Calls 𝓤 𝓛.H} {Λ : Loops 𝓤 𝓛.H} {f : Callee} {p : Post 𝓤 𝓛.H} {d : Place} {rest : Body} {b o : ℕ} {q : Share} where
   -- [the reference; the arguments; the field; room for the copies; the tokens; what the arguments own] before, and what is had of the arguments in the place of the last after
   open 𝓛 use {H}
 

@@ -5,7 +5,7 @@ use mathlib.Core.Bool.{cond}
 use mathlib.Core.List.{[], ◌∷◌, List}
 use lib.Dec.{eqb}
 use seplogic.Ra.Ura.{Ura}
-use mir.Syntax.{Ty, Place, place, Body, skip, seq, assign, block, loop, cond as if, switch, exit, return, call}
+use mir.Syntax.{Ty, Place, place, Body, skip, seq, assign, block, loop, cond as if, switch, exit, return, call, unreachable, call_v, lend_static}
 use base.Logic.{SProp, ent, id⊢, via, comm∗, assoc∗, assoc', mono_l}
 use base.Fml.{Fml, fsep, froom}
 use types.Logic.{Logic, sem}
@@ -52,6 +52,9 @@ first_local (switch x arms) = 0
 first_local (exit k) = 0
 first_local return = 0
 first_local (call f xs p) = 0
+first_local unreachable = 0
+first_local (call_v x sig xs p) = 0
+first_local (lend_static p τ c) = 0
 
 module _ {n : ℕ} {S F : Solid} (O : Holds S F) (Xs : List (Arg n)) where
   -- the result's comes first: self.0 = core(self.0, ..);

@@ -9,8 +9,8 @@ use mathlib.Core.Path.{◌≡◌, refl, sym, subst}
 use Prim.Native.Nat.{ℕ, zero, suc}
 use mathlib.Core.List.{[], ◌∷◌, List}
 use seplogic.Ra.Ura.{Ura}
-use seplogic.Ra.TreeShare.{full_share}
-use mir.Syntax.{Name, Ty, ty_ref, imm, mut, named, place, copy, rv_opd, Body as Code, assign, seq, return, Fn}
+use base.Fraction.{full_share}
+use mir.Syntax.{Callee, Ty, ty_ref, imm, mut, named, place, copy, rv_opd, Body as Code, assign, seq, return, Fn}
 use mir.Val.{Val, vptr}
 use base.Fml.{Share, Fml, fsep, fat, froom, fobs, fauth, fobor, fres, fshr_bor}
 use prog.Wp.{Calls, Loops}
@@ -76,7 +76,7 @@ module _ (n : ℕ) (u : Hands) {S F Z R : Solid} (O : Holds S F) (Xs : List (Arg
   abbrev stored : Code
   stored = seq (assign (self_0 S) (rv_opd (new.operand L.at_result))) (seq (assign (place 0 []) (rv_opd (answer.operand L.at_result))) return)
 
-  abbrev writer_code : Name → Code
+  abbrev writer_code : Callee → Code
   writer_code f = calling O Xs u L.at_field L.at_args f (place L.at_result []) stored
 
   abbrev Written : Fact writer
@@ -109,7 +109,7 @@ module _ (n : ℕ) (u : Hands) {S F Z R : Solid} (O : Holds S F) (Xs : List (Arg
           ends writer 𝓤 Written 𝓛 C Λ κs qs x a (O.make (new.get z)) tt ws (answer.get z)
           (subst (λ (y : F.D). φ (handed O Xs u (O.get x.now) m) y (answer.get z) (handed_ends O Xs u (O.get x.now) (endings entry_seat κs Xs a ws))) (sym (O.got (new.get z))) e) (R.val (answer.get z)) ls
 
-      write : FmC 𝓤 H 𝓛.laws C → (f : Name) → Triple 𝓤 (C f) (Core (Handed O Xs u) Z 𝓤 Ens 𝓛) → Fit entry_seat κs Xs a → Starts writer 𝓤 Written 𝓛 C Λ κs qs x a (writer_code f)
+      write : FmC 𝓤 H 𝓛.laws C → (f : Callee) → Triple 𝓤 (C f) (Core (Handed O Xs u) Z 𝓤 Ens 𝓛) → Fit entry_seat κs Xs a → Starts writer 𝓤 Written 𝓛 C Λ κs qs x a (writer_code f)
       write fm f known a-fit ls =
           move ! (6 ∷ []) $ fsplit3 ! $ drop ! $ move ! (0 ∷ 1 ∷ 7 ∷ []) $ opens_field O ! tt x.now (block x) (byte x) (λ s_fits.
           -- [the field; the way back; the open borrow; obs; auth; the reference; the arguments; the result; its own locals; the ends; the tokens; what the arguments own]
@@ -176,7 +176,7 @@ module _ (n : ℕ) (u : Hands) {S F : Solid} (O : Holds S F) (Xs : List (Arg n))
   abbrev asker : Entry n
   asker = reader n O Xs (Copied O Xs u) Z
 
-  abbrev asker_code : Name → Code
+  abbrev asker_code : Callee → Code
   asker_code f = calling O Xs u (past 2 (tys Xs)) (behind O Xs u (past 2 (tys Xs))) f (place 0 []) return
 
   abbrev Answered : Fact asker
@@ -184,7 +184,7 @@ module _ (n : ℕ) (u : Hands) {S F : Solid} (O : Holds S F) (Xs : List (Arg n))
 
   module _ {M : Type 1} (𝓤 : Ura M) where
     answer : (𝓛 : Logic 𝓤) (C : Calls 𝓤 𝓛.H) (Λ : Loops 𝓤 𝓛.H) (κs : Lfts (suc n)) (qs : Shares (suc n)) (x : Bor S.D) (a : Denots (rows entry_seat κs Xs))
-        → FmC 𝓤 𝓛.H 𝓛.laws C → (f : Name) → Triple 𝓤 (C f) (Core (Handed O Xs u) Z 𝓤 Ens 𝓛) → Fit entry_seat κs Xs a → Starts asker 𝓤 Answered 𝓛 C Λ κs qs x a (asker_code f)
+        → FmC 𝓤 𝓛.H 𝓛.laws C → (f : Callee) → Triple 𝓤 (C f) (Core (Handed O Xs u) Z 𝓤 Ens 𝓛) → Fit entry_seat κs Xs a → Starts asker 𝓤 Answered 𝓛 C Λ κs qs x a (asker_code f)
     answer 𝓛 C Λ κs qs x a fm f known a-fit = opening n O Xs (Copied O Xs u) Z Answered 𝓛 C Λ κs qs x a (λ ls q' s_fits. move ! (0 ∷ 1 ∷ 7 ∷ 3 ∷ 5 ∷ 6 ∷ []) $
         hands O asker.frame ls ! fm u Z Ens known (O.get x.now) (O.part x.now s_fits) κs qs.1 a a-fit (past 2 (tys Xs)) (behind O Xs u (past 2 (tys Xs))) ls.3 (in_order O Xs u (at asker.frame ls) (past 2 (tys Xs)) ls.3 (own_at asker.frame ls)) (λ r ws e fits.
         -- [the reference; the arguments; the field; the copy; the tokens; what is had of the arguments; the result; the ends; …]
@@ -209,5 +209,5 @@ module _ {S F : Solid} (O : Holds S F) where
         assigns ! (of_opd ! (load ! (from ! (hop ! (look ! 0 refl) (fld ! (place_is O) (stop !)))) (look ! 7 refl))) (from ! (stop !)) (init ! 2 refl (F.typed 𝓛 (O.get x.now) _ (O.part x.now s_fits)).0) $
         shutting 0 O [] [] F Shown 𝓛 C Λ κs qs x tt ls q' s_fits tt (O.get x.now) refl (O.part x.now s_fits))
 
-    pub shows : (γ : Env) (k : Name) (𝓛 : Logic 𝓤) (𝓜 : Model 𝓤 𝓛.H) (𝓡 : Running 𝓤 𝓛.H 𝓜) → Proved shower 𝓤 Shown shower_code γ k 𝓛 𝓜 𝓡
+    pub shows : (γ : Env) (k : Callee) (𝓛 : Logic 𝓤) (𝓜 : Model 𝓤 𝓛.H) (𝓡 : Running 𝓤 𝓛.H 𝓜) → Proved shower 𝓤 Shown shower_code γ k 𝓛 𝓜 𝓡
     shows γ k 𝓛 𝓜 𝓡 = proved shower 𝓤 Shown shower_code γ k 𝓛 𝓜 𝓡 (λ κs qs x _ _. show 𝓛 (tables 𝓤 𝓛.H 𝓜 𝓡 γ).C (tables 𝓤 𝓛.H 𝓜 𝓡 γ).Λ κs qs x)
