@@ -3,7 +3,7 @@
 --     Handing      how the entry's code hands it on: as it is, or, as a `&mut [T]`, lent again
 use Prim.Native.Nat.{ℕ, ◌+◌}
 use mathlib.Core.Path.{◌≡◌, refl}
-use mathlib.Core.Bool.{Bool}
+use mathlib.Core.Bool.{Bool, true}
 use mathlib.Core.List.{List, [], ◌∷◌}
 use lib.ListN.{length}
 use seplogic.Ra.Ura.{Ura}
@@ -19,7 +19,7 @@ use denote.Laws.{Typed}
 use denote.Memory.{pointee}
 use denote.Ref.{Bor, MutBor, shr_coded, mut_coded}
 use denote.Slice.{slice_ty, slice_val, ShrSlice, MutSlice, shr_slice_Tells, shr_slice_Lawful, mut_slice_Tells, mut_slice_Lawful}
-use denote.Exit.{Exit, unchanged}
+use denote.Exit.{Exit, Seen, unchanged}
 use Rattle.lend.proofs.Solid.{Solid, row_of}
 
 -- ρ is the element's type as it is written, and σ spelled out
@@ -27,7 +27,7 @@ pub data Handing {D : Type 0} (ty : Lifetime → Ty) (val : D → Val) : Type 0 
   as_it_is : Handing ty val
   lent_again : (ρ σ : Ty) (at : D → ℕ × ℕ) (count : D → ℕ) → ((ℓ : Lifetime) → ty ℓ ≡ slice_ty (ty_ref ℓ mut ρ)) → ((d : D) → val d ≡ slice_val (at d) (count d)) → Handing ty val
 
--- `lifetime s` is MIR's name for its lifetime where s lifetimes stand before the core's, and `exit` is asked whether that lifetime is kept
+-- `lifetime s` is MIR's name for its lifetime where s lifetimes stand before the core's, and `exit` is asked whether that lifetime is kept. Where it is, `seen` is how the argument is seen at exit, whatever the lifetimes are: what is said of it there may name them
 pub record Arg (n : ℕ) : Type 2 where
   pub D : Type 0
   pub lifetime : ℕ → Lifetime
@@ -36,7 +36,9 @@ pub record Arg (n : ℕ) : Type 2 where
   pub reaches : List (Written × List Ty)
   pub lives : Lfts n → Lft
   pub own : Lfts n → D → List Val → Fml
-  pub exit : Bool → Exit D
+  pub exit : Lfts n → Bool → Exit D
+  pub seen : Type 0
+  pub see : (κs : Lfts n) → Seen (exit κs true) → seen
   pub coded : Coded D
   pub shr_at : Lfts n → D → ℕ → ℕ → Lft → Fml
   pub val : D → Val
@@ -46,7 +48,7 @@ pub record Arg (n : ℕ) : Type 2 where
 
 module _ {n : ℕ} where
   abbrev pub row_at : Arg n → ℕ → Lfts n → RattleType
-  row_at X s κs = record { Denot = X.D; mir = X.ty (X.lifetime s) ∷ []; written = X.written (X.lifetime s); reaches = X.reaches; lives = X.lives κs; own_val = X.own κs; exit = λ k. X.exit (k (X.lifetime s)); coded = X.coded; shr_at = X.shr_at κs }
+  row_at X s κs = record { Denot = X.D; mir = X.ty (X.lifetime s) ∷ []; written = X.written (X.lifetime s); reaches = X.reaches; lives = X.lives κs; own_val = X.own κs; exit = λ k. X.exit κs (k (X.lifetime s)); coded = X.coded; shr_at = X.shr_at κs }
 
   abbrev pub value : Solid → Arg n
   value S = record {
@@ -57,7 +59,9 @@ module _ {n : ℕ} where
     reaches = S.reaches;
     lives = λ _. S.lives;
     own = λ _. S.own;
-    exit = λ _. unchanged;
+    exit = λ _ _. unchanged;
+    seen = S.D;
+    see = λ _ x. x;
     coded = S.coded;
     shr_at = λ _. S.shr_at;
     val = S.val;
@@ -75,7 +79,9 @@ module _ {n : ℕ} where
     reaches = (S.written, S.ty ∷ []) ∷ S.reaches;
     lives = λ κs. (ShrSlice erased (lft_at n j ok κs) (row_of S)).lives;
     own = λ κs. (ShrSlice erased (lft_at n j ok κs) (row_of S)).own_val;
-    exit = λ _. unchanged;
+    exit = λ _ _. unchanged;
+    seen = Bor (List S.D);
+    see = λ _ x. x;
     coded = shr_coded (coded_list S.coded);
     shr_at = λ κs. (ShrSlice erased (lft_at n j ok κs) (row_of S)).shr_at;
     val = λ x. slice_val x.ref_ptr (length x.now);
@@ -93,7 +99,9 @@ module _ {n : ℕ} where
     reaches = (S.written, S.ty ∷ []) ∷ S.reaches;
     lives = λ κs. (MutSlice erased (lft_at n j ok κs) (row_of S)).lives;
     own = λ κs. (MutSlice erased (lft_at n j ok κs) (row_of S)).own_val;
-    exit = λ kept. (MutSlice erased [] (row_of S)).exit (λ _. kept);
+    exit = λ κs kept. (MutSlice erased (lft_at n j ok κs) (row_of S)).exit (λ _. kept);
+    seen = MutBor (List S.D);
+    see = λ _ x. x;
     coded = mut_coded (coded_list S.coded);
     shr_at = λ κs. (MutSlice erased (lft_at n j ok κs) (row_of S)).shr_at;
     val = λ x. slice_val x.ref_ptr (length x.now);
