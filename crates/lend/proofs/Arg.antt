@@ -1,5 +1,5 @@
 -- What an entry hands on to a core that has n lifetimes: a value, or a reference at one of those lifetimes. It has one machine value, and what it owns goes to the core.
---     Arg n, row_at     such a type, and its row in a signature that has some lifetimes before the core's.        value, slice, slice-mut      a type by value, and `&[T]` and `&mut [T]` at the core's lifetime j
+--     Arg n, row_at     such a type, and its row in a signature that has some lifetimes before the core's.        value, slice, slice_mut      a type by value, and `&[T]` and `&mut [T]` at the core's lifetime j
 --     Handing      how the entry's code hands it on: as it is, or, as a `&mut [T]`, lent again
 use Prim.Native.Nat.{ℕ, ◌+◌}
 use mathlib.Core.Path.{◌≡◌, refl}

@@ -2,7 +2,7 @@
 --     Seat     where the core's lifetimes stand in a signature: `own_seat` in the core's own, `entry_seat` in the entry's, after that of what is lent
 --     slots, kepts, giving, spells, telling, fitting, going        what a signature and a walk (`Denote/Triple/Walked.antt`) ask of each parameter
 --     Values, Ends, values, put, ends      the arguments on entry and at exit with no seat in sight, and from and to the parameters at a seat
---     handed-over, over, given-up, passed-back        what the entry owns of its arguments is what the core asks, and what the core says of them at exit is what the entry has to say
+--     handed_over, over, given_up, passed_back        what the entry owns of its arguments is what the core asks, and what the core says of them at exit is what the entry has to say
 --     tys, cells, fill, emptied        the arguments' locals, which are filled from what is passed, and given back
 use mathlib.Core.Path.{◌≡◌, refl, subst}
 use mathlib.Core.Bool.{true}

@@ -1,5 +1,5 @@
 -- The covered function that a thin entry calls, the core: its contract is one fact about what it is handed, what it returns, and what it was handed as that is at exit.
---     calls-core       the call.        Hands, hands     the call as an entry over a struct of one field makes it, with the field's value as the first argument or without
+--     calls_core       the call.        Hands, hands     the call as an entry over a struct of one field makes it, with the field's value as the first argument or without
 use mathlib.Core.Path.{refl, sym, ap, subst}
 use Prim.Native.Nat.{ℕ, zero, suc}
 use mathlib.Core.List.{List, [], ◌∷◌}
@@ -155,11 +155,11 @@ module _ {n : ℕ} {S F : Solid} (O : Holds S F) (Xs : List (Arg n)) where
         → ((z : Z.D) (ws : Lasts entry_seat κs Xs a) → Ens (handed u w (m κs a)) z (handed_ends u w (endings entry_seat κs Xs a ws)) → Fits Z z
         → Seq K 𝓛 (‵ (cells Xs bs (m κs a)) ∷ ‵ (rooms (copies Xs) ts) ∷ raw (toks 𝓛 n κs.1 qs) ∷ ‵ (had κs Xs a ws) ∷ Γ) (lands C Λ E d (Z.val z) rest p))
         → Seq K 𝓛 (‵ (cells Xs bs (m κs a)) ∷ ‵ (rooms (copies Xs) ts) ∷ raw (toks 𝓛 n κs.1 qs) ∷ ‵ (owns (rows entry_seat κs Xs) a (machines entry_seat κs Xs a)) ∷ Γ) (runs C Λ E (lending 2 l Xs (seq (call f xs d) rest)) p)
-    passes_on t fm u Z Ens known w w_Fits κs qs a a-fit bs ts l args_at l-at front next =
-        lends t κs Xs bs ts a a-fit 2 l args_at l-at (seq (call f xs d) rest) $
+    passes_on t fm u Z Ens known w w_fits κs qs a a_fit bs ts l args_at l_at front next =
+        lends t κs Xs bs ts a a_fit 2 l args_at l_at (seq (call f xs d) rest) $
         -- [the arguments; their copies; the tokens; what the arguments own]
-        move t (3 ∷ []) $ use1 𝓛 (‵ (owns (rows own_seat κs.1 (Handed u)) (params κs a u w) (machines own_seat κs.1 (Handed u) (params κs a u w)))) (asked κs a 𝓛 u w w_Fits) $ move t (3 ∷ 0 ∷ []) $
-        calls_core t fm (Handed u) Z Ens known κs.1 qs (handed u w (m κs a)) (front (load_all t κs.1 Xs bs ts (m κs a) 2 l args_at l-at (held_at 𝓛 1 refl) (held_at 𝓛 2 refl))) (λ z ws e z_fits.
+        move t (3 ∷ []) $ use1 𝓛 (‵ (owns (rows own_seat κs.1 (Handed u)) (params κs a u w) (machines own_seat κs.1 (Handed u) (params κs a u w)))) (asked κs a 𝓛 u w w_fits) $ move t (3 ∷ 0 ∷ []) $
+        calls_core t fm (Handed u) Z Ens known κs.1 qs (handed u w (m κs a)) (front (load_all t κs.1 Xs bs ts (m κs a) 2 l args_at l_at (held_at 𝓛 1 refl) (held_at 𝓛 2 refl))) (λ z ws e z_fits.
         -- [the tokens; what is said of the arguments; the arguments; their copies]
         move t (1 ∷ []) $ use1 𝓛 (‵ (had κs Xs a (over κs Xs a (among κs a u w ws)))) (left_over κs a 𝓛 u w ws) $ move t (3 ∷ []) $ use1 𝓛 (‵ (rooms (copies Xs) ts)) (dropped 𝓛 Xs ts (m κs a)) $ move t (3 ∷ 0 ∷ 2 ∷ 1 ∷ []) $
         next z (over κs Xs a (among κs a u w ws)) (learned κs a u w (λ m' e'. Ens m' z e') ws e) z_fits)
@@ -175,12 +175,12 @@ module _ {n : ℕ} {S F : Solid} (O : Holds S F) (Φ : Frame n) (ls : Laid Φ) {
       ∷ raw (toks 𝓛 n κs.1 qs) ∷ ‵ (had κs Φ.args a ws) ∷ Γ) (lands C Λ (frame_at Φ ls) d (Z.val z) rest p))
       → Seq K 𝓛 (‵ (fat full_share Φ.lent ls.1 zero (vptr b o)) ∷ ‵ (cells Φ.args ls.2 (values entry_seat κs Φ.args a)) ∷ ‵ (cell F q b o w) ∷ ‵ (rooms (Copied O Φ.args u) cs)
       ∷ raw (toks 𝓛 n κs.1 qs) ∷ ‵ (owns (rows entry_seat κs Φ.args) a (machines entry_seat κs Φ.args a)) ∷ Γ) (runs C Λ (frame_at Φ ls) (calling O Φ.args u k l f d rest) p)
-  hands t fm with-field Z Ens known w w_Fits κs qs a a-fit k l cs lie next =
+  hands t fm with-field Z Ens known w w_fits κs qs a a_fit k l cs lie next =
       move t (3 ∷ []) $ fsplit t $
       -- [room for the field's copy; room for the others; the reference; the arguments; the field; the tokens; what the arguments own]
-      assigns t (of_opd t (load t (from t (hop t (look t 2 refl) (fld t (place_is O) (stop t)))) (look t 4 refl))) (local_at t lie.0.1) (init t 0 refl (F.typed 𝓛 w _ w_Fits).0) $ move t (3 ∷ 1 ∷ 5 ∷ 6 ∷ []) $
-      passes_on O Φ.args t fm with-field Z Ens known w w_Fits κs qs a a-fit ls.2 cs.1 l (args_at Φ ls) lie.1 (λ os. and_then t (load t (local_at t lie.0.1) (look t 3 refl)) os) (λ z ws e z_fits.
+      assigns t (of_opd t (load t (from t (hop t (look t 2 refl) (fld t (place_is O) (stop t)))) (look t 4 refl))) (local_at t lie.0.1) (init t 0 refl (F.typed 𝓛 w _ w_fits).0) $ move t (3 ∷ 1 ∷ 5 ∷ 6 ∷ []) $
+      passes_on O Φ.args t fm with-field Z Ens known w w_fits κs qs a a_fit ls.2 cs.1 l (args_at Φ ls) lie.1 (λ os. and_then t (load t (local_at t lie.0.1) (look t 3 refl)) os) (λ z ws e z_fits.
       -- [the arguments; room for their copies; the tokens; what is had of them; the field's copy; the reference; the field]
       forget t 4 refl $ move t (4 ∷ 1 ∷ []) $ fjoin t $ move t (4 ∷ 1 ∷ 5 ∷ 0 ∷ 2 ∷ 3 ∷ []) $ next z ws e z_fits)
-  hands t fm without Z Ens known w w_Fits κs qs a a-fit k l cs lie next =
-      move t (1 ∷ 3 ∷ 4 ∷ 5 ∷ []) $ passes_on O Φ.args t fm without Z Ens known w w_Fits κs qs a a-fit ls.2 cs l (args_at Φ ls) lie (λ os. os) (λ z ws e z_fits. move t (4 ∷ 0 ∷ 5 ∷ 1 ∷ 2 ∷ 3 ∷ []) $ next z ws e z_fits)
+  hands t fm without Z Ens known w w_fits κs qs a a_fit k l cs lie next =
+      move t (1 ∷ 3 ∷ 4 ∷ 5 ∷ []) $ passes_on O Φ.args t fm without Z Ens known w w_fits κs qs a a_fit ls.2 cs l (args_at Φ ls) lie (λ os. os) (λ z ws e z_fits. move t (4 ∷ 0 ∷ 5 ∷ 1 ∷ 2 ∷ 3 ∷ []) $ next z ws e z_fits)

@@ -86,9 +86,9 @@ module _ {n : ℕ} (T : Entry n) where
 
       starts : (code : Body) → Fit entry_seat κs Xs a → Starts code
           → ent 𝓤 (sep 𝓤 (on_entry 𝓛 entry.signature κs qs (x, a) (v ∷ [], vss)) (emp 𝓤)) (WpFn 𝓤 H C Λ (fn_of T.frame code) (v ∷ flat (rows entry_seat κs Xs) vss) Post)
-      starts code a-fit walk =
+      starts code a_fit walk =
           qed 𝓛 (((‵ (flft κs.0 qs.0) ⊛ raw (toks 𝓛 n κs.1 qs.1)) ⊛ ‵ (owns (T.lent.row κs ∷ rows entry_seat κs Xs) (x, a) (v ∷ [], vss))) ∷ ‵ ftrue ∷ []) ∵
-          split ! $ split ! $ move ! (2 ∷ []) $ fsplit ! $ keep ! (2 ∷ 0 ∷ 3 ∷ 1 ∷ []) $ enters T.frame ! v (T.typed κs x) κs a a-fit walk
+          split ! $ split ! $ move ! (2 ∷ []) $ fsplit ! $ keep ! (2 ∷ 0 ∷ 3 ∷ 1 ∷ []) $ enters T.frame ! v (T.typed κs x) κs a a_fit walk
 
       -- w is the last value of what is lent, ws those of the arguments, r the result, and u its machine value
       module _ (w : Last ((T.lent.row κs).exit yes) x) (fits : T.stay.fit κs x w) (ws : Lasts entry_seat κs Xs a) (r : T.result.Denot) (e : φ κs x m r (see ((T.lent.row κs).exit yes) x w) (endings entry_seat κs Xs a ws)) (u : Val) where
@@ -138,6 +138,6 @@ module _ {n : ℕ} (T : Entry n) where
           → FmC 𝓤 𝓛.H 𝓛.laws C → (f : Callee) → Triple 𝓤 (C f) (Core Ys Z 𝓤 Ens 𝓛) → Fit entry_seat κs Xs a → Starts 𝓛 C Λ κs qs x a (code f))
           → Thin
       unfolding tables_of
-      thin walk γ k f r is 𝓛 𝓜 𝓡 core-meets =
+      thin walk γ k f r is 𝓛 𝓜 𝓡 core_meets =
           proved (code f) γ k 𝓛 𝓜 𝓡 (λ κs qs x a. walk 𝓛 (tables 𝓤 𝓛.H 𝓜 𝓡 γ).C (tables 𝓤 𝓛.H 𝓜 𝓡 γ).Λ κs qs x a
-          (fm_of 𝓤 𝓛.H 𝓛.laws (tables_of 𝓤 𝓛.H 𝓜 (tables 𝓤 𝓛.H 𝓜 𝓡 γ))) f (cited 𝓤 𝓛.H (Core Ys Z 𝓤 Ens 𝓛) 𝓜 𝓡 γ f r is core-meets))
+          (fm_of 𝓤 𝓛.H 𝓛.laws (tables_of 𝓤 𝓛.H 𝓜 (tables 𝓤 𝓛.H 𝓜 𝓡 γ))) f (cited 𝓤 𝓛.H (Core Ys Z 𝓤 Ens 𝓛) 𝓜 𝓡 γ f r is core_meets))

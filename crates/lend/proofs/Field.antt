@@ -1,6 +1,6 @@
 -- A struct of one field that is lent: the borrow is opened at the field's cell, and closed once the cell holds the field of some struct.
 --     Holds S F        the struct S has the one field F
---     opens-field, closes-field        of a `&mut`.        looks-field, shuts-field      of a `&`, at some share
+--     opens_field, closes_field        of a `&mut`.        looks_field, shuts_field      of a `&`, at some share
 use mathlib.Core.Path.{◌≡◌, refl, sym, ap}
 use Prim.Native.Nat.{ℕ, zero, ◌+◌}
 use mathlib.Core.Option.{some}

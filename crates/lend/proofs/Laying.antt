@@ -1,5 +1,5 @@
 -- Where the locals of an entry that stores lie, behind its arguments: the one that the core returns to, and those that the field and the arguments are copied to. There are two ways, and the entry's body tells which.
---     result-first     self.0 = core(self.0, ..);        field-first      let w = self.0; self.0 = core(w, ..);        laid     the one that a body begins with
+--     result_first     self.0 = core(self.0, ..);        field_first      let w = self.0; self.0 = core(w, ..);        laid     the one that a body begins with
 use Prim.Native.Nat.{ℕ, zero, suc}
 use mathlib.Core.Bool.{cond}
 use mathlib.Core.List.{[], ◌∷◌, List}

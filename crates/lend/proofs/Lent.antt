@@ -111,11 +111,11 @@ module _ (n : ℕ) (u : Hands) {S F Z R : Solid} (O : Holds S F) (Xs : List (Arg
           (subst (λ (y : F.D). φ (handed O Xs u (O.get x.now) m) y (answer.get z) (handed_ends O Xs u (O.get x.now) (endings entry_seat κs Xs a ws))) (sym (O.got (new.get z))) e) (R.val (answer.get z)) ls
 
       write : FmC 𝓤 H 𝓛.laws C → (f : Callee) → Triple 𝓤 (C f) (Core (Handed O Xs u) Z 𝓤 Ens 𝓛) → Fit entry_seat κs Xs a → Starts writer 𝓤 Written 𝓛 C Λ κs qs x a (writer_code f)
-      write fm f known a-fit ls =
+      write fm f known a_fit ls =
           move ! (6 ∷ []) $ fsplit3 ! $ drop ! $ move ! (0 ∷ 1 ∷ 7 ∷ []) $ opens_field O ! tt x.now (block x.ref_ptr) (byte x.ref_ptr) (λ s_fits.
           -- [the field; the way back; the open borrow; obs; auth; the reference; the arguments; the result; its own locals; the ends; the tokens; what the arguments own]
           move ! (8 ∷ []) $ use1 𝓛 (‵ (fsep (froom Z.ty (L.back ls.3) zero) (rooms (Copied O Xs u) (L.copied ls.3)))) (L.apart 𝓛 ls.3) $ fsplit ! $ move ! (7 ∷ 8 ∷ 2 ∷ 1 ∷ 11 ∷ 12 ∷ 0 ∷ 9 ∷ 10 ∷ []) $
-          hands O writer.frame ls ! fm u Z Ens known (O.get x.now) (O.part x.now s_fits) κs qs.1 a a-fit L.at_field L.at_args (L.copied ls.3) (lies ls).1 (closes ls))
+          hands O writer.frame ls ! fm u Z Ens known (O.get x.now) (O.part x.now s_fits) κs qs.1 a a_fit L.at_field L.at_args (L.copied ls.3) (lies ls).1 (closes ls))
 
     abbrev Stores : Type 2
     Stores = Thin writer 𝓤 Written (Handed O Xs u) Z Ens writer_code
@@ -186,8 +186,8 @@ module _ (n : ℕ) (u : Hands) {S F : Solid} (O : Holds S F) (Xs : List (Arg n))
   module _ {M : Type 1} (𝓤 : Ura M) where
     answer : (𝓛 : Logic 𝓤) (C : Calls 𝓤 𝓛.H) (Λ : Loops 𝓤 𝓛.H) (κs : Lfts (suc n)) (qs : Shares (suc n)) (x : Bor S.D) (a : Denots (rows entry_seat κs Xs))
         → FmC 𝓤 𝓛.H 𝓛.laws C → (f : Callee) → Triple 𝓤 (C f) (Core (Handed O Xs u) Z 𝓤 Ens 𝓛) → Fit entry_seat κs Xs a → Starts asker 𝓤 Answered 𝓛 C Λ κs qs x a (asker_code f)
-    answer 𝓛 C Λ κs qs x a fm f known a-fit = opening n O Xs (Copied O Xs u) Z Answered 𝓛 C Λ κs qs x a (λ ls q' s_fits. move ! (0 ∷ 1 ∷ 7 ∷ 3 ∷ 5 ∷ 6 ∷ []) $
-        hands O asker.frame ls ! fm u Z Ens known (O.get x.now) (O.part x.now s_fits) κs qs.1 a a-fit (past 2 (tys Xs)) (behind O Xs u (past 2 (tys Xs))) ls.3 (in_order O Xs u (at asker.frame ls) (past 2 (tys Xs)) ls.3 (own_at asker.frame ls)) (λ r ws e fits.
+    answer 𝓛 C Λ κs qs x a fm f known a_fit = opening n O Xs (Copied O Xs u) Z Answered 𝓛 C Λ κs qs x a (λ ls q' s_fits. move ! (0 ∷ 1 ∷ 7 ∷ 3 ∷ 5 ∷ 6 ∷ []) $
+        hands O asker.frame ls ! fm u Z Ens known (O.get x.now) (O.part x.now s_fits) κs qs.1 a a_fit (past 2 (tys Xs)) (behind O Xs u (past 2 (tys Xs))) ls.3 (in_order O Xs u (at asker.frame ls) (past 2 (tys Xs)) ls.3 (own_at asker.frame ls)) (λ r ws e fits.
         -- [the reference; the arguments; the field; the copy; the tokens; what is had of the arguments; the result; the ends; …]
         land ! (from ! (stop !)) (init ! 6 refl (Z.typed 𝓛 r _ fits).0) $ move ! (0 ∷ 1 ∷ 6 ∷ 3 ∷ 7 ∷ 4 ∷ 5 ∷ []) $ shutting n O Xs (Copied O Xs u) Z Answered 𝓛 C Λ κs qs x a ls q' s_fits ws r e fits))
 

@@ -1,5 +1,6 @@
 -- Types of one machine value that own only facts, with their laws: what `Args.antt` and `Lent.antt` need of a type that is passed by value.
 --     Solid, row_of     the type and its row.        empty, uint, boolean, array     `()`, an unsigned integer, a bool, and an array of such values.        struct, enum     a declared struct and a declared enum of plain data
+--     copied       the last law: a value of the type is read through a `&` (`Denote/Copied.antt`)
 use Prim.Native.Nat.{ℕ}
 use mathlib.Core.Path.{◌≡◌, refl, subst}
 use mathlib.Core.List.{List, [], ◌∷◌, map}
@@ -19,7 +20,7 @@ use denote.Array.{Array, array_val, Array-Tells, Array-Typed, Array-Makes, array
 use denote.Struct.Struct.{Plains, layout}
 use denote.Struct.Declared.{Declared, fields, shape, row}
 use denote.Struct.Laws as LL
-use denote.Enum.Enum.{Few, Plainss, layout as enumLayout}
+use denote.Enum.Enum.{Few, Plainss, layout as enum_layout}
 use denote.Enum.Declared as E
 use denote.Enum.Laws as EL
 use denote.Lowered.{Lowered}
@@ -157,7 +158,7 @@ struct T L low plain copy = record {
 abbrev pub enum : (T : E.Declared) → EL.Laws T → Few (E.shape T) → Lowered (E.row T) → Plainss (E.variants T) → EL.Copyabless T.parts → Solid
 enum T L few low plain copy = record {
   D = T.D;
-  ty = enumLayout (E.shape T);
+  ty = enum_layout (E.shape T);
   written = (E.row T).written;
   reaches = (E.row T).reaches;
   lives = (E.row T).lives;
