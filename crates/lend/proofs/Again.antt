@@ -1,12 +1,12 @@
 -- How the entry's code hands its arguments on: an argument as it is, and a `&mut [T]` lent again, its pointer in a local of its own and the slice made anew in another. The value is the same, so what the argument owns goes to the core all the same.
 --     copies       the types of those locals.        lending, operands     the code that fills them, and the arguments as the call's operands
---     again        what lies in those locals then.        lends, load-all, dropped     the rules: they are filled, read, and given back
+--     again        what lies in those locals then.        lends, load_all, dropped     the rules: they are filled, read, and given back
 use mathlib.Core.Path.{◌≡◌, refl, sym, ap, subst}
 use Prim.Native.Nat.{ℕ, zero, suc}
 use mathlib.Core.List.{List, [], ◌∷◌}
 use lib.Dec.{T}
 use seplogic.Ra.Ura.{Ura}
-use seplogic.Ra.TreeShare.{full_share}
+use base.Fraction.{full_share}
 use mir.Syntax.{Lifetime, erased, mut, Ty, ty_ref, place, deref, field, Opd as Operand, copy, Rv as RValue, addr_of, aggregate, Body, seq, assign}
 use mir.Val.{Val, vptr, WT, has_ty}
 use base.Logic.{SProp, ent, sep, id⊢, via, assoc∗, mono∗, mono_l, mono_r, snd∗}
@@ -99,24 +99,24 @@ module _ {M : Type 1} {𝓤 : Ura M} {𝓛 : Logic 𝓤} {K : Type 0} {Γ : List
 
   loads : K → {D : Type 0} {ty : Lifetime → Ty} {val : D → Val} (h : Handing ty val) (ℓ : Lifetime) (b : ℕ) (d : D) (k t : ℕ) (τs : List Ty) (ts : Blocks (copied h τs)) → Lie E k (ty ℓ ∷ []) (b, tt) → Lie E t (copied h τs) ts
       → Held 𝓛 Γ (H.at full_share (ty ℓ) b zero (val d)) → Held 𝓛 Γ (sem 𝓛 (made h τs ts d)) → Opd K 𝓛 Γ E (operand h k t) (val d)
-  loads t as_it_is ℓ b d k l τs ts k_at l-at c m = load t (local_at t k_at.1) (reads 𝓛 K c)
-  loads t {ty = ty} {val = val} (lent_again ρ σ at count ty_is val_is) ℓ b d k l τs ts k_at l-at c m =
+  loads t as_it_is ℓ b d k l τs ts k_at l_at c m = load t (local_at t k_at.1) (reads 𝓛 K c)
+  loads t {ty = ty} {val = val} (lent_again ρ σ at count ty_is val_is) ℓ b d k l τs ts k_at l_at c m =
       let pointer : SProp 𝓤 = H.at full_share (ty_ref erased mut ρ) ts.0 zero (vptr (at d).0 (at d).1) in
       let slice : SProp 𝓤 = H.at full_share (ty erased) ts.1.0 zero (val d) in
-      load t (local_at t (lie_next E l (ty_ref erased mut ρ) (ty erased ∷ τs) ts l-at).1) (reads 𝓛 K (first_held 𝓛 slice pointer (swap_held 𝓛 pointer slice m)))
+      load t (local_at t (lie_next E l (ty_ref erased mut ρ) (ty erased ∷ τs) ts l_at).1) (reads 𝓛 K (first_held 𝓛 slice pointer (swap_held 𝓛 pointer slice m)))
 
   pub load_all : K → {n : ℕ} (κs : Lfts n) (Xs : List (Arg n)) (bs : Blocks (tys Xs)) (ts : Blocks (copies Xs)) (m : Values Xs) (k t : ℕ) → Lie E k (tys Xs) bs → Lie E t (copies Xs) ts
       → Held 𝓛 Γ (sem 𝓛 (cells Xs bs m)) → Held 𝓛 Γ (sem 𝓛 (again Xs ts m)) → Opds K 𝓛 Γ E (operands k t Xs) (flat (rows own_seat κs Xs) (machines own_seat κs Xs (put own_seat κs Xs m)))
-  load_all t κs [] bs ts m k l k_at l-at c a = no_more t
-  load_all t κs (X ∷ Xs) bs ts m k l k_at l-at c a =
+  load_all t κs [] bs ts m k l k_at l_at c a = no_more t
+  load_all t κs (X ∷ Xs) bs ts m k l k_at l_at c a =
       let h : Handing X.ty X.val = X.handing in
       let τ : Ty = X.ty (X.lifetime 1) in
       let c₁ : SProp 𝓤 = H.at full_share τ bs.0 zero (X.val m.0) in
       let cs : SProp 𝓤 = sem 𝓛 (cells Xs bs.1 m.1) in
       let m₁ : SProp 𝓤 = sem 𝓛 (made h (copies Xs) ts m.0) in
       let ms : SProp 𝓤 = sem 𝓛 (again Xs (others h (copies Xs) ts) m.1) in
-      and_then t (loads t h (X.lifetime 1) bs.0 m.0 k l (copies Xs) ts (_, k_at.1) l-at (first_held 𝓛 c₁ cs c) (first_held 𝓛 m₁ ms a))
-      (load_all t κs Xs bs.1 (others h (copies Xs) ts) m.1 (suc k) (next h l) (lie_next E k τ (tys Xs) bs k_at) (next_at E h l (copies Xs) ts l-at)
+      and_then t (loads t h (X.lifetime 1) bs.0 m.0 k l (copies Xs) ts (_, k_at.1) l_at (first_held 𝓛 c₁ cs c) (first_held 𝓛 m₁ ms a))
+      (load_all t κs Xs bs.1 (others h (copies Xs) ts) m.1 (suc k) (next h l) (lie_next E k τ (tys Xs) bs k_at) (next_at E h l (copies Xs) ts l_at)
       (first_held 𝓛 cs c₁ (swap_held 𝓛 c₁ cs c)) (first_held 𝓛 ms m₁ (swap_held 𝓛 m₁ ms a)))
 
 module _ {M : Type 1} {𝓤 : Ura M} {𝓛 : Logic 𝓤} {K : Type 0} {E : Env 𝓤 𝓛.H} {C : Calls 𝓤 𝓛.H} {Λ : Loops 𝓤 𝓛.H} {q : Post 𝓤 𝓛.H} where
@@ -124,19 +124,19 @@ module _ {M : Type 1} {𝓤 : Ura M} {𝓛 : Logic 𝓤} {K : Type 0} {E : Env �
       → (rest : ℕ → Body) {Γ : List (Item 𝓤)}
       → Step K 𝓛 (‵ (fat full_share (ty ℓ) b zero (val d)) ∷ ‵ (rooms τs (others h τs ts)) ∷ ‵ (made h τs ts d) ∷ Γ) (runs C Λ E (rest (next h t)) q)
       (‵ (fat full_share (ty ℓ) b zero (val d)) ∷ ‵ (rooms (copied h τs) ts) ∷ Γ) (runs C Λ E (copying h k t rest) q)
-  makes t as_it_is ℓ b d wt k l τs ts k_at l-at rest = step (λ s. nothing t $ move t (1 ∷ 2 ∷ []) $ s)
-  makes t {ty = ty} (lent_again ρ σ at count ty_is val_is) ℓ b d wt k l τs ts k_at l-at rest = step (λ s. move t (1 ∷ []) $ fsplit3 t $ move t (3 ∷ []) $
+  makes t as_it_is ℓ b d wt k l τs ts k_at l_at rest = step (λ s. nothing t $ move t (1 ∷ 2 ∷ []) $ s)
+  makes t {ty = ty} (lent_again ρ σ at count ty_is val_is) ℓ b d wt k l τs ts k_at l_at rest = step (λ s. move t (1 ∷ []) $ fsplit3 t $ move t (3 ∷ []) $
       -- [the argument; room for the pointer; room for the slice; room for the others]
-      assigns t (addr t (local_in t k_at.1 (fld t (ap (λ (τ : Ty). field_of τ 0) (ty_is ℓ)) (hop t (look_field t 0 refl (ty_is ℓ) (val_is d) 0 refl) (stop t))))) (local_at t l-at.1) (init t 1 refl (tt, tt)) $
-      assigns t (valued t (val_is d) (agg t (and_then t (load t (local_at t l-at.1) (look t 1 refl)) (and_then t (load t (local_in t k_at.1 (fld t (ap (λ (τ : Ty). field_of τ 1) (ty_is ℓ)) (stop t))) (look_field t 0 refl (ty_is ℓ) (val_is d) 1 refl)) (no_more t)))))
-      (local_at t (lie_next E l (ty_ref erased mut ρ) (ty erased ∷ τs) ts l-at).1) (init t 2 refl wt) $
+      assigns t (addr t (local_in t k_at.1 (fld t (ap (λ (τ : Ty). field_of τ 0) (ty_is ℓ)) (hop t (look_field t 0 refl (ty_is ℓ) (val_is d) 0 refl) (stop t))))) (local_at t l_at.1) (init t 1 refl (tt, tt)) $
+      assigns t (valued t (val_is d) (agg t (and_then t (load t (local_at t l_at.1) (look t 1 refl)) (and_then t (load t (local_in t k_at.1 (fld t (ap (λ (τ : Ty). field_of τ 1) (ty_is ℓ)) (stop t))) (look_field t 0 refl (ty_is ℓ) (val_is d) 1 refl)) (no_more t)))))
+      (local_at t (lie_next E l (ty_ref erased mut ρ) (ty erased ∷ τs) ts l_at).1) (init t 2 refl wt) $
       move t (1 ∷ 2 ∷ []) $ fjoin t $ move t (1 ∷ 2 ∷ []) $ s)
 
   pub lends : K → {n : ℕ} (κs : Lfts (suc n)) (Xs : List (Arg n)) (bs : Blocks (tys Xs)) (ts : Blocks (copies Xs)) (a : Denots (rows entry_seat κs Xs)) → Fit entry_seat κs Xs a → (k t : ℕ) → Lie E k (tys Xs) bs → Lie E t (copies Xs) ts → (rest : Body) {Γ : List (Item 𝓤)}
       → Step K 𝓛 (‵ (cells Xs bs (values entry_seat κs Xs a)) ∷ ‵ (again Xs ts (values entry_seat κs Xs a)) ∷ Γ) (runs C Λ E rest q) (‵ (cells Xs bs (values entry_seat κs Xs a)) ∷ ‵ (rooms (copies Xs) ts) ∷ Γ) (runs C Λ E (lending k t Xs rest) q)
-  lends t κs [] bs ts a is k l k_at l-at rest = step (λ s. s)
-  lends t κs (X ∷ Xs) bs ts a is k l k_at l-at rest = step (λ s. fsplit t $ move t (0 ∷ 2 ∷ []) $
-      makes t X.handing (X.lifetime 1) bs.0 a.0 (X.typed 𝓛 erased κs.1 a.0 _ is.0).0 k l (copies Xs) ts (_, k_at.1) l-at (λ l'. lending (suc k) l' Xs rest) $ move t (3 ∷ 1 ∷ []) $
-      lends t κs Xs bs.1 (others X.handing (copies Xs) ts) a.1 is.1 (suc k) (next X.handing l) (lie_next E k (X.ty (X.lifetime 1)) (tys Xs) bs k_at) (next_at E X.handing l (copies Xs) ts l-at) rest $
+  lends t κs [] bs ts a is k l k_at l_at rest = step (λ s. s)
+  lends t κs (X ∷ Xs) bs ts a is k l k_at l_at rest = step (λ s. fsplit t $ move t (0 ∷ 2 ∷ []) $
+      makes t X.handing (X.lifetime 1) bs.0 a.0 (X.typed 𝓛 erased κs.1 a.0 _ is.0).0 k l (copies Xs) ts (_, k_at.1) l_at (λ l'. lending (suc k) l' Xs rest) $ move t (3 ∷ 1 ∷ []) $
+      lends t κs Xs bs.1 (others X.handing (copies Xs) ts) a.1 is.1 (suc k) (next X.handing l) (lie_next E k (X.ty (X.lifetime 1)) (tys Xs) bs k_at) (next_at E X.handing l (copies Xs) ts l_at) rest $
       -- [the other arguments; the other copies; the argument; its copies]
       move t (2 ∷ 0 ∷ []) $ fjoin t $ move t (2 ∷ 1 ∷ []) $ fjoin t $ move t (1 ∷ []) $ s)

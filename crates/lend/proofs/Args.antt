@@ -2,14 +2,14 @@
 --     Seat     where the core's lifetimes stand in a signature: `own_seat` in the core's own, `entry_seat` in the entry's, after that of what is lent
 --     slots, kepts, giving, spells, telling, fitting, going        what a signature and a walk (`Denote/Triple/Walked.antt`) ask of each parameter
 --     Values, Ends, values, put, ends      the arguments on entry and at exit with no seat in sight, and from and to the parameters at a seat
---     handed-over, over, given-up, passed-back        what the entry owns of its arguments is what the core asks, and what the core says of them at exit is what the entry has to say
+--     handed_over, over, given_up, passed_back        what the entry owns of its arguments is what the core asks, and what the core says of them at exit is what the entry has to say
 --     tys, cells, fill, emptied        the arguments' locals, which are filled from what is passed, and given back
 use mathlib.Core.Path.{◌≡◌, refl, subst}
 use mathlib.Core.Bool.{true}
 use Prim.Native.Nat.{ℕ, zero, suc}
 use mathlib.Core.List.{List, [], ◌∷◌, ◌++◌}
 use seplogic.Ra.Ura.{Ura}
-use seplogic.Ra.TreeShare.{full_share}
+use base.Fraction.{full_share}
 use mir.Syntax.{Ty}
 use base.Logic.{SProp, ent, emp, id⊢, mono∗, mono_r}
 use base.Fml.{Fml, ftrue, fsep, fat}
@@ -23,7 +23,7 @@ use denote.Laws.{Are, Ises, Spells, valss, Tellss}
 use denote.Signature.{Slot, plain, types_at}
 use denote.Triple.End.{Kepts, Fins, Outs, outs, lasts_of, all}
 use denote.Triple.Walked.{Stays, fits_of, has_of, AllGo}
-use denote.Exit.{yes, left, Seen}
+use denote.Exit.{yes, left}
 use Rattle.lend.proofs.Arg.{Arg, row_at}
 use Rattle.lend.proofs.Locals.{Blocks, env, rooms}
 
@@ -46,7 +46,7 @@ module _ {n : ℕ} where
 
   abbrev pub Ends : List (Arg n) → Type 0
   Ends [] = Unit {0}
-  Ends (X ∷ Xs) = Seen (X.exit true) × Ends Xs
+  Ends (X ∷ Xs) = X.seen × Ends Xs
 
   -- ---- in a signature
   module _ (P : Seat n) where
@@ -60,7 +60,7 @@ module _ {n : ℕ} where
     -- all that is had of an argument at exit is what the core says of it
     abbrev pub giving : (Xs : List (Arg n)) → Stays (slots Xs) (kepts Xs)
     giving [] = tt
-    giving (X ∷ Xs) = (record { fit = λ κs x w. Unit {0}; has = λ κs x w vs. left (X.exit true) x w }, giving Xs)
+    giving (X ∷ Xs) = (record { fit = λ κs x w. Unit {0}; has = λ κs x w vs. left (X.exit (P.to κs) true) x w }, giving Xs)
 
     module _ (κs : Lfts P.count) where
       abbrev pub rows : List (Arg n) → List RattleType
@@ -105,7 +105,7 @@ module _ {n : ℕ} where
 
       abbrev pub ends : (Xs : List (Arg n)) → Outs {n = P.count} κs (slots Xs) (kepts Xs) → Ends Xs
       ends [] e = tt
-      ends (X ∷ Xs) e = (e.0, ends Xs e.1)
+      ends (X ∷ Xs) e = (X.see (P.to κs) e.0, ends Xs e.1)
 
       abbrev pub endings : (Xs : List (Arg n)) (a : Denots (rows Xs)) → Lasts Xs a → Ends Xs
       endings Xs a ws = ends Xs (outs {n = P.count} κs (slots Xs) (kepts Xs) a ws)
@@ -158,11 +158,11 @@ module _ {M : Type 1} {𝓤 : Ura M} (𝓛 : Logic 𝓤) where
 
     pub given_up : (κs : Lfts (suc n)) (Xs : List (Arg n)) (a : Denots (rows entry_seat κs Xs)) (ws : Lasts own_seat κs.1 Xs (passed κs Xs a)) → ⟦ said own_seat κs.1 Xs (passed κs Xs a) ws ⟧ ⊢ ⟦ had κs Xs a (over κs Xs a ws) ⟧
     given_up κs [] a ws = id⊢ 𝓤 (emp 𝓤)
-    given_up κs (X ∷ Xs) a ws = mono_r 𝓤 ⟦ left (X.exit true) a.0 ws.0 ⟧ (given_up κs Xs a.1 ws.1)
+    given_up κs (X ∷ Xs) a ws = mono_r 𝓤 ⟦ left (X.exit κs.1 true) a.0 ws.0 ⟧ (given_up κs Xs a.1 ws.1)
 
     pub going : (Xs : List (Arg n)) → AllGo 𝓛 (suc n) (slots entry_seat Xs) (kepts entry_seat Xs) (giving entry_seat Xs)
     going [] = tt
-    going (X ∷ Xs) = ((λ κs x w vs _. 𝓛.laws.⇛_intro ⟦ left (X.exit true) x w ⟧), going Xs)
+    going (X ∷ Xs) = ((λ κs x w vs _. 𝓛.laws.⇛_intro ⟦ left (X.exit κs.1 true) x w ⟧), going Xs)
 
     -- a cell is room, whatever it holds
     pub emptied : (Xs : List (Arg n)) (bs : Blocks (tys Xs)) (m : Values Xs) → ⟦ cells Xs bs m ⟧ ⊢ ⟦ rooms (tys Xs) bs ⟧

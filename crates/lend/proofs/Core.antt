@@ -1,11 +1,11 @@
 -- The covered function that a thin entry calls, the core: its contract is one fact about what it is handed, what it returns, and what it was handed as that is at exit.
---     calls-core       the call.        Hands, hands     the call as an entry over a struct of one field makes it, with the field's value as the first argument or without
+--     calls_core       the call.        Hands, hands     the call as an entry over a struct of one field makes it, with the field's value as the first argument or without
 use mathlib.Core.Path.{refl, sym, ap, subst}
 use Prim.Native.Nat.{ℕ, zero, suc}
 use mathlib.Core.List.{List, [], ◌∷◌}
 use seplogic.Ra.Ura.{Ura}
-use seplogic.Ra.TreeShare.{full_share}
-use mir.Syntax.{Name, Ty, Place, place, deref, field, copy, rv_opd, Opd as Operand, Body, seq, assign, call}
+use base.Fraction.{full_share}
+use mir.Syntax.{Callee, Ty, Place, place, deref, field, copy, rv_opd, Opd as Operand, Body, seq, assign, call}
 use mir.Val.{Val, vptr}
 use base.Logic.{ent, emp, id⊢, via, emp∗, snd∗, mono∗}
 use base.Fml.{Share, fat}
@@ -50,7 +50,7 @@ module _ {n : ℕ} (Ys : List (Arg n)) (Z : Solid) where
       abbrev pub at : (κs : Lfts n) → Shares n → Values Ys → Core.Ghost
       at κs qs m = ((κs, qs, tt, put own_seat κs Ys m, machines own_seat κs Ys (put own_seat κs Ys m)), tt)
 
-module _ {M : Type 1} {𝓤 : Ura M} {𝓛 : Logic 𝓤} {K : Type 0} {Γ : List (Item 𝓤)} {C : Calls 𝓤 𝓛.H} {Λ : Loops 𝓤 𝓛.H} {f : Name} {q : Post 𝓤 𝓛.H} {d : Place} {rest : Body} {n : ℕ} where
+module _ {M : Type 1} {𝓤 : Ura M} {𝓛 : Logic 𝓤} {K : Type 0} {Γ : List (Item 𝓤)} {C : Calls 𝓤 𝓛.H} {Λ : Loops 𝓤 𝓛.H} {f : Callee} {q : Post 𝓤 𝓛.H} {d : Place} {rest : Body} {n : ℕ} where
   -- [the lifetimes' tokens; what the arguments own] before, and [the tokens; what is said of the arguments] after
   open 𝓛 use {H}
 
@@ -96,7 +96,7 @@ module _ {n : ℕ} {S F : Solid} (O : Holds S F) (Xs : List (Arg n)) where
   Copied with-field = F.ty ∷ copies Xs
   Copied without = copies Xs
 
-  abbrev pub calling : Hands → ℕ → ℕ → Name → Place → Body → Body
+  abbrev pub calling : Hands → ℕ → ℕ → Callee → Place → Body → Body
   calling with-field k l f d rest = seq (assign (place k []) (rv_opd (copy (self_0 S)))) (lending 2 l Xs (seq (call f (copy (place k []) ∷ operands 2 l Xs) d) rest))
   calling without k l f d rest = lending 2 l Xs (seq (call f (operands 2 l Xs) d) rest)
 
@@ -144,7 +144,7 @@ module _ {n : ℕ} {S F : Solid} (O : Holds S F) (Xs : List (Arg n)) where
       left_over with-field w ws = via 𝓤 _ (snd∗ 𝓤 (emp 𝓤) _) (given_up 𝓛 κs Xs a ws.1)
       left_over without w ws = given_up 𝓛 κs Xs a ws
 
-  module _ {M : Type 1} {𝓤 : Ura M} {𝓛 : Logic 𝓤} {K : Type 0} {Γ : List (Item 𝓤)} {C : Calls 𝓤 𝓛.H} {Λ : Loops 𝓤 𝓛.H} {f : Name} {p : Post 𝓤 𝓛.H} {d : Place} {rest : Body} {E : Env 𝓤 𝓛.H} {xs : List Operand} where
+  module _ {M : Type 1} {𝓤 : Ura M} {𝓛 : Logic 𝓤} {K : Type 0} {Γ : List (Item 𝓤)} {C : Calls 𝓤 𝓛.H} {Λ : Loops 𝓤 𝓛.H} {f : Callee} {p : Post 𝓤 𝓛.H} {d : Place} {rest : Body} {E : Env 𝓤 𝓛.H} {xs : List Operand} where
     -- the arguments are copied where they are lent again, and the core is called. Its operands xs are the arguments' or, by `front`, also the field's
     open 𝓛 use {H}
 
@@ -155,16 +155,16 @@ module _ {n : ℕ} {S F : Solid} (O : Holds S F) (Xs : List (Arg n)) where
         → ((z : Z.D) (ws : Lasts entry_seat κs Xs a) → Ens (handed u w (m κs a)) z (handed_ends u w (endings entry_seat κs Xs a ws)) → Fits Z z
         → Seq K 𝓛 (‵ (cells Xs bs (m κs a)) ∷ ‵ (rooms (copies Xs) ts) ∷ raw (toks 𝓛 n κs.1 qs) ∷ ‵ (had κs Xs a ws) ∷ Γ) (lands C Λ E d (Z.val z) rest p))
         → Seq K 𝓛 (‵ (cells Xs bs (m κs a)) ∷ ‵ (rooms (copies Xs) ts) ∷ raw (toks 𝓛 n κs.1 qs) ∷ ‵ (owns (rows entry_seat κs Xs) a (machines entry_seat κs Xs a)) ∷ Γ) (runs C Λ E (lending 2 l Xs (seq (call f xs d) rest)) p)
-    passes_on t fm u Z Ens known w w_Fits κs qs a a-fit bs ts l args_at l-at front next =
-        lends t κs Xs bs ts a a-fit 2 l args_at l-at (seq (call f xs d) rest) $
+    passes_on t fm u Z Ens known w w_fits κs qs a a_fit bs ts l args_at l_at front next =
+        lends t κs Xs bs ts a a_fit 2 l args_at l_at (seq (call f xs d) rest) $
         -- [the arguments; their copies; the tokens; what the arguments own]
-        move t (3 ∷ []) $ use1 𝓛 (‵ (owns (rows own_seat κs.1 (Handed u)) (params κs a u w) (machines own_seat κs.1 (Handed u) (params κs a u w)))) (asked κs a 𝓛 u w w_Fits) $ move t (3 ∷ 0 ∷ []) $
-        calls_core t fm (Handed u) Z Ens known κs.1 qs (handed u w (m κs a)) (front (load_all t κs.1 Xs bs ts (m κs a) 2 l args_at l-at (held_at 𝓛 1 refl) (held_at 𝓛 2 refl))) (λ z ws e z_fits.
+        move t (3 ∷ []) $ use1 𝓛 (‵ (owns (rows own_seat κs.1 (Handed u)) (params κs a u w) (machines own_seat κs.1 (Handed u) (params κs a u w)))) (asked κs a 𝓛 u w w_fits) $ move t (3 ∷ 0 ∷ []) $
+        calls_core t fm (Handed u) Z Ens known κs.1 qs (handed u w (m κs a)) (front (load_all t κs.1 Xs bs ts (m κs a) 2 l args_at l_at (held_at 𝓛 1 refl) (held_at 𝓛 2 refl))) (λ z ws e z_fits.
         -- [the tokens; what is said of the arguments; the arguments; their copies]
         move t (1 ∷ []) $ use1 𝓛 (‵ (had κs Xs a (over κs Xs a (among κs a u w ws)))) (left_over κs a 𝓛 u w ws) $ move t (3 ∷ []) $ use1 𝓛 (‵ (rooms (copies Xs) ts)) (dropped 𝓛 Xs ts (m κs a)) $ move t (3 ∷ 0 ∷ 2 ∷ 1 ∷ []) $
         next z (over κs Xs a (among κs a u w ws)) (learned κs a u w (λ m' e'. Ens m' z e') ws e) z_fits)
 
-module _ {n : ℕ} {S F : Solid} (O : Holds S F) (Φ : Frame n) (ls : Laid Φ) {M : Type 1} {𝓤 : Ura M} {𝓛 : Logic 𝓤} {K : Type 0} {Γ : List (Item 𝓤)} {C : Calls 𝓤 𝓛.H} {Λ : Loops 𝓤 𝓛.H} {f : Name} {p : Post 𝓤 𝓛.H} {d : Place} {rest : Body} {b o : ℕ} {q : Share} where
+module _ {n : ℕ} {S F : Solid} (O : Holds S F) (Φ : Frame n) (ls : Laid Φ) {M : Type 1} {𝓤 : Ura M} {𝓛 : Logic 𝓤} {K : Type 0} {Γ : List (Item 𝓤)} {C : Calls 𝓤 𝓛.H} {Λ : Loops 𝓤 𝓛.H} {f : Callee} {p : Post 𝓤 𝓛.H} {d : Place} {rest : Body} {b o : ℕ} {q : Share} where
   -- [the reference; the arguments; the field; room for the copies; the tokens; what the arguments own] before, and what is had of the arguments in the place of the last after
   open 𝓛 use {H}
 
@@ -175,12 +175,12 @@ module _ {n : ℕ} {S F : Solid} (O : Holds S F) (Φ : Frame n) (ls : Laid Φ) {
       ∷ raw (toks 𝓛 n κs.1 qs) ∷ ‵ (had κs Φ.args a ws) ∷ Γ) (lands C Λ (frame_at Φ ls) d (Z.val z) rest p))
       → Seq K 𝓛 (‵ (fat full_share Φ.lent ls.1 zero (vptr b o)) ∷ ‵ (cells Φ.args ls.2 (values entry_seat κs Φ.args a)) ∷ ‵ (cell F q b o w) ∷ ‵ (rooms (Copied O Φ.args u) cs)
       ∷ raw (toks 𝓛 n κs.1 qs) ∷ ‵ (owns (rows entry_seat κs Φ.args) a (machines entry_seat κs Φ.args a)) ∷ Γ) (runs C Λ (frame_at Φ ls) (calling O Φ.args u k l f d rest) p)
-  hands t fm with-field Z Ens known w w_Fits κs qs a a-fit k l cs lie next =
+  hands t fm with-field Z Ens known w w_fits κs qs a a_fit k l cs lie next =
       move t (3 ∷ []) $ fsplit t $
       -- [room for the field's copy; room for the others; the reference; the arguments; the field; the tokens; what the arguments own]
-      assigns t (of_opd t (load t (from t (hop t (look t 2 refl) (fld t (place_is O) (stop t)))) (look t 4 refl))) (local_at t lie.0.1) (init t 0 refl (F.typed 𝓛 w _ w_Fits).0) $ move t (3 ∷ 1 ∷ 5 ∷ 6 ∷ []) $
-      passes_on O Φ.args t fm with-field Z Ens known w w_Fits κs qs a a-fit ls.2 cs.1 l (args_at Φ ls) lie.1 (λ os. and_then t (load t (local_at t lie.0.1) (look t 3 refl)) os) (λ z ws e z_fits.
+      assigns t (of_opd t (load t (from t (hop t (look t 2 refl) (fld t (place_is O) (stop t)))) (look t 4 refl))) (local_at t lie.0.1) (init t 0 refl (F.typed 𝓛 w _ w_fits).0) $ move t (3 ∷ 1 ∷ 5 ∷ 6 ∷ []) $
+      passes_on O Φ.args t fm with-field Z Ens known w w_fits κs qs a a_fit ls.2 cs.1 l (args_at Φ ls) lie.1 (λ os. and_then t (load t (local_at t lie.0.1) (look t 3 refl)) os) (λ z ws e z_fits.
       -- [the arguments; room for their copies; the tokens; what is had of them; the field's copy; the reference; the field]
       forget t 4 refl $ move t (4 ∷ 1 ∷ []) $ fjoin t $ move t (4 ∷ 1 ∷ 5 ∷ 0 ∷ 2 ∷ 3 ∷ []) $ next z ws e z_fits)
-  hands t fm without Z Ens known w w_Fits κs qs a a-fit k l cs lie next =
-      move t (1 ∷ 3 ∷ 4 ∷ 5 ∷ []) $ passes_on O Φ.args t fm without Z Ens known w w_Fits κs qs a a-fit ls.2 cs l (args_at Φ ls) lie (λ os. os) (λ z ws e z_fits. move t (4 ∷ 0 ∷ 5 ∷ 1 ∷ 2 ∷ 3 ∷ []) $ next z ws e z_fits)
+  hands t fm without Z Ens known w w_fits κs qs a a_fit k l cs lie next =
+      move t (1 ∷ 3 ∷ 4 ∷ 5 ∷ []) $ passes_on O Φ.args t fm without Z Ens known w w_fits κs qs a a_fit ls.2 cs l (args_at Φ ls) lie (λ os. os) (λ z ws e z_fits. move t (4 ∷ 0 ∷ 5 ∷ 1 ∷ 2 ∷ 3 ∷ []) $ next z ws e z_fits)

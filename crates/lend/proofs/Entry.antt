@@ -6,8 +6,8 @@ use Prim.Native.Nat.{ℕ, zero, suc}
 use mathlib.Core.List.{[], ◌∷◌, List}
 use lib.Dec.{T as IsTrue}
 use seplogic.Ra.Ura.{Ura}
-use seplogic.Ra.TreeShare.{full_share}
-use mir.Syntax.{Name, Body, return}
+use base.Fraction.{full_share}
+use mir.Syntax.{Callee, Body, return}
 use mir.Val.{Val, WT, has_ty}
 use base.Logic.{SProp, ent, sep, emp}
 use base.Fml.{ftrue, fat, froom, flft}
@@ -82,30 +82,30 @@ module _ {n : ℕ} (T : Entry n) where
 
       abbrev pub Starts : Body → Type 1
       Starts code = (ls : Laid T.frame) → Sq 𝓛 (holding T.frame ls v m (froom T.frame.result ls.0 zero)
-          (‵ (flft κs.0 qs.0) ∷ ‵ ((T.lent.row κs).own x (v ∷ [])) ∷ raw (toks 𝓛 n κs.1 qs.1) ∷ ‵ (owns (rows entry_seat κs Xs) a vss) ∷ [])) (runs C Λ (at T.frame ls) code (at_ret (at T.frame ls) Post))
+          (‵ (flft κs.0 qs.0) ∷ ‵ ((T.lent.row κs).own_val x (v ∷ [])) ∷ raw (toks 𝓛 n κs.1 qs.1) ∷ ‵ (owns (rows entry_seat κs Xs) a vss) ∷ [])) (runs C Λ (at T.frame ls) code (at_ret (at T.frame ls) Post))
 
       starts : (code : Body) → Fit entry_seat κs Xs a → Starts code
           → ent 𝓤 (sep 𝓤 (on_entry 𝓛 entry.signature κs qs (x, a) (v ∷ [], vss)) (emp 𝓤)) (WpFn 𝓤 H C Λ (fn_of T.frame code) (v ∷ flat (rows entry_seat κs Xs) vss) Post)
-      starts code a-fit walk =
+      starts code a_fit walk =
           qed 𝓛 (((‵ (flft κs.0 qs.0) ⊛ raw (toks 𝓛 n κs.1 qs.1)) ⊛ ‵ (owns (T.lent.row κs ∷ rows entry_seat κs Xs) (x, a) (v ∷ [], vss))) ∷ ‵ ftrue ∷ []) ∵
-          split ! $ split ! $ move ! (2 ∷ []) $ fsplit ! $ keep ! (2 ∷ 0 ∷ 3 ∷ 1 ∷ []) $ enters T.frame ! v (T.typed κs x) κs a a-fit walk
+          split ! $ split ! $ move ! (2 ∷ []) $ fsplit ! $ keep ! (2 ∷ 0 ∷ 3 ∷ 1 ∷ []) $ enters T.frame ! v (T.typed κs x) κs a a_fit walk
 
       -- w is the last value of what is lent, ws those of the arguments, r the result, and u its machine value
       module _ (w : Last ((T.lent.row κs).exit yes) x) (fits : T.stay.fit κs x w) (ws : Lasts entry_seat κs Xs a) (r : T.result.Denot) (e : φ κs x m r (see ((T.lent.row κs).exit yes) x w) (endings entry_seat κs Xs a ws)) (u : Val) where
-        exits : Sq 𝓛 (‵ (flft κs.0 qs.0) ∷ ‵ (T.stay.has κs x w (v ∷ [])) ∷ raw (toks 𝓛 n κs.1 qs.1) ∷ ‵ (had κs Xs a ws) ∷ ‵ (T.result.own r (u ∷ [])) ∷ []) (prop (Post u))
+        exits : Sq 𝓛 (‵ (flft κs.0 qs.0) ∷ ‵ (T.stay.has κs x w (v ∷ [])) ∷ raw (toks 𝓛 n κs.1 qs.1) ∷ ‵ (had κs Xs a ws) ∷ ‵ (T.result.own_val r (u ∷ [])) ∷ []) (prop (Post u))
         exits =
             suffices ! _ (ends_at 𝓛 entry stayed entry_says ((κs, qs, tt, (x, a), (v ∷ [], vss)), tt) u r (w, ws) (fits, fitting entry_seat κs Xs a ws)) $
             says ! e $ move ! (0 ∷ 2 ∷ []) $ join ! $ frame ! $ move ! (0 ∷ 1 ∷ []) $ fjoin ! $ done !
 
         pub ends : (ls : Laid T.frame) → Sq 𝓛 (holding T.frame ls v m (fat full_share T.frame.result ls.0 zero u)
-            (‵ (flft κs.0 qs.0) ∷ ‵ (T.stay.has κs x w (v ∷ [])) ∷ raw (toks 𝓛 n κs.1 qs.1) ∷ ‵ (had κs Xs a ws) ∷ ‵ (T.result.own r (u ∷ [])) ∷ [])) (runs C Λ (at T.frame ls) return (at_ret (at T.frame ls) Post))
+            (‵ (flft κs.0 qs.0) ∷ ‵ (T.stay.has κs x w (v ∷ [])) ∷ raw (toks 𝓛 n κs.1 qs.1) ∷ ‵ (had κs Xs a ws) ∷ ‵ (T.result.own_val r (u ∷ [])) ∷ [])) (runs C Λ (at T.frame ls) return (at_ret (at T.frame ls) Post))
         ends ls = leaves T.frame ! ls m $ exits
 
     -- the entry's routine, at the key k of the environment γ, meets the contract if its body is the code
-    abbrev pub Proved : Body → (γ : Env) (k : Name) (𝓛 : Logic 𝓤) (𝓜 : Model 𝓤 𝓛.H) → Running 𝓤 𝓛.H 𝓜 → Type 2
+    abbrev pub Proved : Body → (γ : Env) (k : Callee) (𝓛 : Logic 𝓤) (𝓜 : Model 𝓤 𝓛.H) → Running 𝓤 𝓛.H 𝓜 → Type 2
     Proved code γ k 𝓛 𝓜 𝓡 = Closed 𝓤 𝓛.H (tables 𝓤 𝓛.H 𝓜 𝓡 γ).C (tables 𝓤 𝓛.H 𝓜 𝓡 γ).Λ k (fn_of T.frame code) → Meets 𝓛 entry.signature (𝓡.run (γ k)) (closing 𝓛 entry entry_says)
 
-    module _ (code : Body) (γ : Env) (k : Name) (𝓛 : Logic 𝓤) (𝓜 : Model 𝓤 𝓛.H) (𝓡 : Running 𝓤 𝓛.H 𝓜) where
+    module _ (code : Body) (γ : Env) (k : Callee) (𝓛 : Logic 𝓤) (𝓜 : Model 𝓤 𝓛.H) (𝓡 : Running 𝓤 𝓛.H 𝓜) where
       open 𝓛 use {H}
 
       abbrev C : Calls 𝓤 H
@@ -128,16 +128,16 @@ module _ {n : ℕ} (T : Entry n) where
             entered 𝓤 H (triple_of 𝓛 entry.signature (closing 𝓛 entry entry_says)) C Λ k (fn_of T.frame code) closed
             (walk_Meets 𝓛 entry stayed (T.goes 𝓛, going 𝓛 Xs) entry_says run (WpFn-mono 𝓤 H 𝓛.laws (tables_of 𝓤 H 𝓜 (tables 𝓤 H 𝓜 𝓡 γ)) (fn_of T.frame code)) walks)
 
-    module _ (Ys : List (Arg n)) (Z : Solid) (Ens : Said Ys Z) (code : Name → Body) where
+    module _ (Ys : List (Arg n)) (Z : Solid) (Ens : Said Ys Z) (code : Callee → Body) where
       -- the same where the core, whose key is f and whose routine is r, meets its contract
       abbrev pub Thin : Type 2
-      Thin = (γ : Env) (k f : Name) (r : Routine) → γ f ≡ r → (𝓛 : Logic 𝓤) (𝓜 : Model 𝓤 𝓛.H) (𝓡 : Running 𝓤 𝓛.H 𝓜)
+      Thin = (γ : Env) (k f : Callee) (r : Routine) → γ f ≡ r → (𝓛 : Logic 𝓤) (𝓜 : Model 𝓤 𝓛.H) (𝓡 : Running 𝓤 𝓛.H 𝓜)
           → Meets 𝓛 (core Ys Z).signature (𝓡.run r) (closing 𝓛 (core Ys Z) (core_says Ys Z 𝓤 Ens)) → Proved (code f) γ k 𝓛 𝓜 𝓡
 
       pub thin : ((𝓛 : Logic 𝓤) (C : Calls 𝓤 𝓛.H) (Λ : Loops 𝓤 𝓛.H) (κs : Lfts (suc n)) (qs : Shares (suc n)) (x : (T.lent.row κs).Denot) (a : Denots (rows entry_seat κs Xs))
-          → FmC 𝓤 𝓛.H 𝓛.laws C → (f : Name) → Triple 𝓤 (C f) (Core Ys Z 𝓤 Ens 𝓛) → Fit entry_seat κs Xs a → Starts 𝓛 C Λ κs qs x a (code f))
+          → FmC 𝓤 𝓛.H 𝓛.laws C → (f : Callee) → Triple 𝓤 (C f) (Core Ys Z 𝓤 Ens 𝓛) → Fit entry_seat κs Xs a → Starts 𝓛 C Λ κs qs x a (code f))
           → Thin
       unfolding tables_of
-      thin walk γ k f r is 𝓛 𝓜 𝓡 core-meets =
+      thin walk γ k f r is 𝓛 𝓜 𝓡 core_meets =
           proved (code f) γ k 𝓛 𝓜 𝓡 (λ κs qs x a. walk 𝓛 (tables 𝓤 𝓛.H 𝓜 𝓡 γ).C (tables 𝓤 𝓛.H 𝓜 𝓡 γ).Λ κs qs x a
-          (fm_of 𝓤 𝓛.H 𝓛.laws (tables_of 𝓤 𝓛.H 𝓜 (tables 𝓤 𝓛.H 𝓜 𝓡 γ))) f (cited 𝓤 𝓛.H (Core Ys Z 𝓤 Ens 𝓛) 𝓜 𝓡 γ f r is core-meets))
+          (fm_of 𝓤 𝓛.H 𝓛.laws (tables_of 𝓤 𝓛.H 𝓜 (tables 𝓤 𝓛.H 𝓜 𝓡 γ))) f (cited 𝓤 𝓛.H (Core Ys Z 𝓤 Ens 𝓛) 𝓜 𝓡 γ f r is core_meets))

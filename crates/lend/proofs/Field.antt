@@ -1,27 +1,28 @@
 -- A struct of one field that is lent: the borrow is opened at the field's cell, and closed once the cell holds the field of some struct.
 --     Holds S F        the struct S has the one field F
---     opens-field, closes-field        of a `&mut`.        looks-field, shuts-field      of a `&`, at some share
+--     opens_field, closes_field        of a `&mut`.        looks_field, shuts_field      of a `&`, at some share
 use mathlib.Core.Path.{◌≡◌, refl, sym, ap}
 use Prim.Native.Nat.{ℕ, zero, ◌+◌}
 use mathlib.Core.Option.{some}
 use mathlib.Core.List.{List, [], ◌∷◌}
 use seplogic.Ra.Ura.{Ura}
-use seplogic.Ra.TreeShare.{full_share}
+use base.Fraction.{full_share}
 use mir.Syntax.{Sym, Ty, ty_struct, tcons, tnil}
 use mir.Raw.{raw as raw_ty}
 use mir.Val.{Val, vstruct, vcons, vnil}
 use base.Logic.{SProp, ent, sep, wand, all, all_e, apply∗}
 use base.Stored.{Gv}
-use base.Fml.{Lft, GName, Share, Fml, fat, flft, fobs, fauth, fbor, fobor, fshr_bor}
+use base.Fml.{Lft, GName, Share, Fml, fat, flft, fobs, fauth, fbor, fobor}
 use prog.Memory.{align, up, field_of}
 use types.Logic.{Logic}
 use types.Kit.{Item, ‵, raw, ◌⊛◌, Goal, Soaks, Seq, Step, step, ◌$◌, ◌∵◌, !, qed, move, use1, use2, split, rewrite, assume, frame, each, done}
 use types.SemTy.{Body}
 use denote.Laws.{Is, shows}
-use denote.Memory.{mem, part_at, cell_at}
+use denote.Memory.{mem, part_at, cell_at, hidden_shr}
+use denote.Opens.{Shut}
 use denote.Steps.{opens, closes, looks, shuts, owned, facts}
 use denote.Struct.Steps.{spelt}
-use Rattle.lend.proofs.Solid.{Solid, row_of, vals, Fits, copies}
+use Rattle.lend.proofs.Solid.{Solid, row_of, vals, Fits}
 
 pub record Holds (S F : Solid) : Type 0 where
   pub name : Sym
@@ -102,10 +103,10 @@ module _ {S F : Solid} (O : Holds S F) where
         widens t full_share (O.make x) b o (O.whole x fits) $ closes t z (row_of S) (O.make x) (vals S (O.make x)) b o $ k)
 
     pub looks_field : K → Soaks G → {κ : Lft} {q : Share} (s : S.D) (b o : ℕ)
-        → ((q' : Share) → Fits S s → Seq K 𝓛 (‵ (cell F q' b o (O.get s)) ∷ raw (Back 𝓛 q' b o) ∷ ‵ (fobor κ q (part_at (row_of S) q' s b o)) ∷ ‵ (fshr_bor κ (λ i. part_at (row_of S) i s b o)) ∷ Γ) G)
-        → Seq K 𝓛 (‵ (fshr_bor κ (λ i. part_at (row_of S) i s b o)) ∷ ‵ (flft κ q) ∷ Γ) G
-    looks_field t z s b o k = looks t z (row_of S) (Is (row_of S)) (shows 𝓛 (row_of S)) (vals S) S.tells (copies S 𝓛) s b o (λ q' vs. narrows t q' s vs b o (k q'))
+        → ((q' : Share) → Fits S s → Seq K 𝓛 (‵ (cell F q' b o (O.get s)) ∷ raw (Back 𝓛 q' b o) ∷ Shut 𝓛 κ q (part_at (row_of S) q' s b o) ∷ ‵ (hidden_shr (row_of S) κ s b o) ∷ Γ) G)
+        → Seq K 𝓛 (‵ (hidden_shr (row_of S) κ s b o) ∷ ‵ (flft κ q) ∷ Γ) G
+    looks_field t z s b o k = looks t z (row_of S) (S.copied 𝓛).opens s b o (λ q' vs. narrows t q' s vs b o (k q'))
 
     pub shuts_field : K → Soaks G → {κ : Lft} {q : Share} (q' : Share) (s : S.D) (b o : ℕ) → Fits S s
-        → Step K 𝓛 (‵ (flft κ q) ∷ Γ) G (‵ (cell F q' b o (O.get s)) ∷ raw (Back 𝓛 q' b o) ∷ ‵ (fobor κ q (part_at (row_of S) q' s b o)) ∷ Γ) G
+        → Step K 𝓛 (‵ (flft κ q) ∷ Γ) G (‵ (cell F q' b o (O.get s)) ∷ raw (Back 𝓛 q' b o) ∷ Shut 𝓛 κ q (part_at (row_of S) q' s b o) ∷ Γ) G
     shuts_field t z q' s b o fits = step (λ k. widens t q' s b o fits $ shuts t z (row_of S) q' s (vals S s) b o $ k)

@@ -4,7 +4,7 @@ use Prim.Native.Nat.{ℕ, zero, suc}
 use mathlib.Core.List.{List, [], ◌∷◌, ◌++◌}
 use lib.Dec.{T}
 use seplogic.Ra.Ura.{Ura}
-use seplogic.Ra.TreeShare.{full_share}
+use base.Fraction.{full_share}
 use mir.Syntax.{Ty, Fn, Body, return, local, value_local}
 use mir.Val.{Val, WT, has_ty}
 use base.Logic.{SProp}
@@ -27,7 +27,7 @@ pub record Frame (n : ℕ) : Type 2 where
 
 module _ {n : ℕ} (Φ : Frame n) where
   abbrev pub fn_of : Body → Fn
-  fn_of body = record { lifetimes = suc n; outlives = []; params = past 1 (tys Φ.args); locals = local Φ.result value_local ∷ local Φ.lent value_local ∷ (locals (tys Φ.args) ++ (locals Φ.own ++ [])); body = body }
+  fn_of body = record { lifetimes = suc n; outlives = []; ty_params = []; givens = 0; params = past 1 (tys Φ.args); locals = local Φ.result value_local ∷ local Φ.lent value_local ∷ (locals (tys Φ.args) ++ (locals Φ.own ++ [])); body = body }
 
   -- the block of each local
   abbrev pub Laid : Type 0

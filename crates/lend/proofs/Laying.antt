@@ -1,11 +1,11 @@
 -- Where the locals of an entry that stores lie, behind its arguments: the one that the core returns to, and those that the field and the arguments are copied to. There are two ways, and the entry's body tells which.
---     result-first     self.0 = core(self.0, ..);        field-first      let w = self.0; self.0 = core(w, ..);        laid     the one that a body begins with
+--     result_first     self.0 = core(self.0, ..);        field_first      let w = self.0; self.0 = core(w, ..);        laid     the one that a body begins with
 use Prim.Native.Nat.{ℕ, zero, suc}
 use mathlib.Core.Bool.{cond}
 use mathlib.Core.List.{[], ◌∷◌, List}
 use lib.Dec.{eqb}
 use seplogic.Ra.Ura.{Ura}
-use mir.Syntax.{Ty, Place, place, Body, skip, seq, assign, block, loop, cond as if, switch, exit, return, call}
+use mir.Syntax.{Ty, Place, place, Body, skip, seq, assign, block, loop, cond as if, switch, exit, return, call, unreachable, call_v, lend_static}
 use base.Logic.{SProp, ent, id⊢, via, comm∗, assoc∗, assoc', mono_l}
 use base.Fml.{Fml, fsep, froom}
 use types.Logic.{Logic, sem}
@@ -52,6 +52,9 @@ first_local (switch x arms) = 0
 first_local (exit k) = 0
 first_local return = 0
 first_local (call f xs p) = 0
+first_local unreachable = 0
+first_local (call_v x sig xs p) = 0
+first_local (lend_static p τ c) = 0
 
 module _ {n : ℕ} {S F : Solid} (O : Holds S F) (Xs : List (Arg n)) where
   -- the result's comes first: self.0 = core(self.0, ..);

@@ -1,6 +1,6 @@
 -- A function's locals as lists of types and blocks, each lemma by induction on the types: they are made and freed all at once, and a local is found though its number is no numeral.
 --     Blocks, env, locals, past, Lie       where locals lie in a frame, and the local after some.        rooms, deaths        what a walk owns of them, each as one entry of its context
---     make, free, local-in, local_at       the rules, as `Types/Run.antt` has them for one local.        Held, held_at, first-held, swap-held, reads      a part of an entry of the context, which can be read
+--     make, free, local_in, local_at       the rules, as `Types/Run.antt` has them for one local.        Held, held_at, first_held, swap_held, reads      a part of an entry of the context, which can be read
 use mathlib.Core.Path.{◌≡◌, sym, subst}
 use Prim.Native.Nat.{ℕ, zero, suc}
 use mathlib.Core.List.{List, [], ◌∷◌, ◌++◌, nil≢cons, head-eq_of_cons-eq, tail-eq_of_cons-eq}

@@ -1,5 +1,5 @@
 -- What an entry reads off the local in which its core's result lies: all of it, a field of it, or nothing.
---     Reading Z F      an operand that reads an F.        whole, part, nothing-of      the three.        Has Z j F, has     the struct Z's field j is an F
+--     Reading Z F      an operand that reads an F.        whole, part, nothing_of      the three.        Has Z j F, has     the struct Z's field j is an F
 use mathlib.Core.Path.{◌≡◌, refl, sym, ◌∙◌, ap, subst}
 use Prim.Native.Nat.{ℕ, zero, ◌+◌}
 use mathlib.Core.Option.{some}
@@ -15,7 +15,7 @@ use prog.Wp.{Env}
 use types.Logic.{Logic}
 use types.Kit.{Item, ‵, nth}
 use types.Run.{Reads, Opd, look, stop, fld, load, unit_lit}
-use types.Part.{Part, whole as whole-cell, sub, look_in}
+use types.Part.{Part, whole as whole_cell, sub, look_in}
 use Rattle.lend.proofs.Solid.{Solid, Fits, empty}
 use Rattle.lend.proofs.Locals.{local_in, local_at}
 
@@ -53,11 +53,11 @@ nothing_of Z = record { operand = λ k. opd_unit; get = λ z. tt; fits = λ z is
 -- a field of a struct's cell, which is entry i of the context
 pub look_field : {M : Type 1} {𝓤 : Ura M} {𝓛 : Logic 𝓤} {K : Type 0} {Γ : List (Item 𝓤)} {q : Share} {b o : ℕ} {τ σ : Ty} {v : Val} {ν : Sym} {τs : Tys} {vs : Vals} {d : ℕ}
     → K → (i : ℕ) → nth 𝓛 i Γ ≡ ‵ (fat q τ b o v) → τ ≡ ty_struct ν τs → v ≡ vstruct vs → (j : ℕ) → field_at zero τs j ≡ some (σ, d) → Reads K 𝓛 Γ σ b (o + d) (get_v vs j)
-look_field {𝓤 = 𝓤} {𝓛 = 𝓛} {K = K} {q = q} {b = b} {o = o} {τ = τ} {σ = σ} {v = v} {vs = vs} {d = d} t i i_is τ-is v-is j j-at =
+look_field {𝓤 = 𝓤} {𝓛 = 𝓛} {K = K} {q = q} {b = b} {o = o} {τ = τ} {σ = σ} {v = v} {vs = vs} {d = d} t i i_is τ_is v_is j j_at =
     let cell : Item 𝓤 = ‵ (fat q τ b o v) in
     let back : Val → Item 𝓤 = λ u. ‵ (fat q τ b o u) in
     look_in t i (subst (λ (x : Item 𝓤). Part K 𝓛 x q σ b (o + d) (get_v vs j) (λ u. back (vstruct (set_v vs j u)))) (sym i_is)
-    (sub t j j-at (subst (λ (τ' : Ty). Part K 𝓛 cell q τ' b o (vstruct vs) back) τ-is (subst (λ (v' : Val). Part K 𝓛 cell q τ b o v' back) v-is (whole-cell t)))))
+    (sub t j j_at (subst (λ (τ' : Ty). Part K 𝓛 cell q τ' b o (vstruct vs) back) τ_is (subst (λ (v' : Val). Part K 𝓛 cell q τ b o v' back) v_is (whole_cell t)))))
 
 module _ {Z F : Solid} (j : ℕ) (N : Has Z j F) where
   module _ {M : Type 1} {𝓤 : Ura M} {𝓛 : Logic 𝓤} {K : Type 0} {Γ : List (Item 𝓤)} {E E' : Env 𝓤 𝓛.H} {q : Share} {k b : ℕ} where
