@@ -2,7 +2,6 @@
 use mathlib.Core.Path.{◌≡◌, refl, sym, ap₂, ◌∙◌}
 use mathlib.Core.Bool.{Bool, true, false}
 use Prim.Native.Nat.{ℕ, ◌^◌}
-use borrow.Author.Rules.{rules}
 use borrow.Author.Tests.{lt-ltb, le-ltb}
 use lib.Bits.{bit_xor}
 use lib.Dec.{leb, ltb}
@@ -11,17 +10,7 @@ use Rattle.posit.specs.Digits.{number, digits}
 use Rattle.posit.specs.Accumulator.{bits_of, words}
 use Rattle.quire_words.specs.Words.{wide}
 use Rattle.quire_words.proofs.Operand.{escaped}
-use Rattle.quire_steps.proofs.judged.Statement.{statement}
-use Rattle.quire_steps.proofs.judged.Tie as tie
-
-cast-s : tie.Need-overflow-cast-s
-cast-s c = search rules
-
-sign-of-requires : tie.Need-sign-of-requires
-sign-of-requires c κs = search rules
-
-sign-of-requires-2 : tie.Need-sign-of-requires-2
-sign-of-requires-2 c κs = search rules
+use Rattle.quire_steps.proofs.judged.Goals as goal
 
 -- the three signs, each as a digit, tested at once
 seen : (b s a : Bool) → ltb (bit_xor (bool_byte b) (bool_byte s)) (bit_xor (bool_byte a) (bool_byte s)) ≡ escaped b s a
@@ -37,30 +26,16 @@ seen false false false = refl
 tested : (b s a t : Bool) (x y : ℕ) → x ≡ bool_byte b → y ≡ bool_byte a → ltb (bit_xor x (bool_byte s)) (bit_xor y (bool_byte s)) ≡ t → escaped b s a ≡ t
 tested b s a t x y ex ey e = sym (seen b s a) ∙ ap₂ (λ (u v : ℕ). ltb (bit_xor u (bool_byte s)) (bit_xor v (bool_byte s))) (sym ex) (sym ey) ∙ e
 
-not-real-requires : tie.Need-not-real-requires
-not-real-requires c κs = search rules
-
-returns : tie.Need-returns
+pub returns-then-sign_of-s : goal.returns-then-sign_of-s
 unfolding number words bits_of digits
-returns c =
-    let at = c.before.before in
-    let k = at.before.before.args in
-    let out = tested (leb (2 ^ 511) (wide k.before)) k.negative (leb (2 ^ 511) (wide k.after)) true _ _ at.before.sign_of.ensures at.sign-of2.ensures (lt-ltb _ _ c.before.if1.true) in
-    rw (out, c.not-real.ensures)
+returns-then-sign_of-s c =
+    let at = c in
+    let k = at.args in
+    let out = tested (leb (2 ^ 511) (wide k.before)) k.negative (leb (2 ^ 511) (wide k.after)) true _ _ at.sign_of.ensures at.sign_of-2.ensures (lt-ltb _ _ c.if-sign_of-s.true) in
+    rw (out, c.not_real.ensures)
 
-returns-2 : tie.Need-returns-2
-returns-2 c =
-    let k = c.before.before.before.args in
-    let stays = tested (leb (2 ^ 511) (wide k.before)) k.negative (leb (2 ^ 511) (wide k.after)) false _ _ c.before.before.sign_of.ensures c.before.sign-of2.ensures (le-ltb _ _ c.if1.false) in
+pub returns-else-sign_of-s : goal.returns-else-sign_of-s
+returns-else-sign_of-s c =
+    let k = c.args in
+    let stays = tested (leb (2 ^ 511) (wide k.before)) k.negative (leb (2 ^ 511) (wide k.after)) false _ _ c.sign_of.ensures c.sign_of-2.ensures (le-ltb _ _ c.if-sign_of-s.false) in
     rw stays
-
-pub judged_spec : {M : Type 1} → statement M
-judged_spec =
-    tie.close
-    (tie.spec
-    cast-s
-    sign-of-requires
-    sign-of-requires-2
-    not-real-requires
-    returns
-    returns-2)
