@@ -4,7 +4,6 @@ use mathlib.Core.Bool.{Bool}
 use Prim.Native.Nat.{ℕ, ◌+◌, ◌*◌, ◌/◌, ◌%◌, ◌^◌, ◌<◌}
 use native.Mathlib.Nat.{mul-one, mul-pos, sub-zero, le_trans}
 use native.Mathlib.Omega.{arith}
-use borrow.Author.Rules.{rules}
 use lib.Dec.{ltb, lit≤}
 use lib.Pow.{pow_pos}
 use mir.Val.{bool_byte}
@@ -19,8 +18,7 @@ use Rattle.rounding.proofs.Terms.{finer_by}
 use Rattle.rounding.specs.Packed.{packed_size, packed_unit}
 use Rattle.quire_words.specs.Words.{wide}
 use Rattle.exact_terms.proofs.Wide.{wide_rounds, FirstDigits}
-use Rattle.quire_totals.proofs.round_size.Statement.{statement}
-use Rattle.quire_totals.proofs.round_size.Tie as tie
+use Rattle.quire_totals.proofs.round_size.Goals as goal
 
 digits_rounded : (s : Bool) (x u d : ℕ) (more : Bool) → 0 < x → FirstDigits x u d more
     → rounded 2 31 (unit 2 31) (with_sign s x) ≡ signed 31 s (round 2 31 packed_unit (whole (packed_size (u + 1) (d / 4) (ltb 0 (d % 4 + bool_byte more)))))
@@ -32,28 +30,12 @@ digits_rounded s x u d more p l =
     ∙ ap (signed 31 s) (rw (mul-one, sub-zero) at
     (wide_rounds d 0 u (rw mul-one l.top) (rw mul-one l.word) (omega arith) (whole (x * 2 ^ finer_by)) sound more l.counts (λ _. le_trans (lit≤ tt) l.top)))
 
-first-digits-requires : tie.Need-first-digits-requires
-first-digits-requires c κs = search rules
+pub overflow_add-x-2 : goal.overflow_add-x-2
+overflow_add-x-2 c = record { fits = omega (arith, digit_lt c.first_digits-x.result.more) }
 
-add-pack : tie.Need-overflow-add-pack
-add-pack c = search rules
-
-cast-pack : tie.Need-overflow-cast-pack
-cast-pack c = search rules
-
-add-pack-2 : tie.Need-overflow-add-pack-2
-add-pack-2 c = record { fits = omega (arith, digit_lt c.before.before.before.before.first-digits.result.more) }
-
-pack-requires : tie.Need-pack-requires
-pack-requires c κs = search rules
-
-returns : tie.Need-returns
+pub returns : goal.returns
 returns c =
-    let k = c.before.before.before.before.before in
-    let a = k.before.args in
-    let x = k.first-digits.result in
-    c.pack.ensures ∙ sym (digits_rounded a.negative (wide a.w) x.unit x.digits x.more k.before.requires k.first-digits.ensures)
-
-pub round_size_spec : {M : Type 1} → statement M
-round_size_spec =
-    tie.close (tie.spec first-digits-requires add-pack cast-pack add-pack-2 pack-requires returns)
+    let k = c in
+    let a = k.args in
+    let x = k.first_digits-x.result in
+    c.pack.ensures ∙ sym (digits_rounded a.negative (wide a.w) x.unit x.digits x.more k.requires k.first_digits-x.ensures)
