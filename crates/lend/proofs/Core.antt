@@ -72,7 +72,7 @@ module _ {M : Type 1} {𝓤 : Ura M} {𝓛 : Logic 𝓤} {K : Type 0} {Γ : List
 
 -- what a thin entry hands its core: the field of the struct that it is lent and its own arguments, or those alone
 pub data Hands : Type 0 where
-  with-field without : Hands
+  with_field without : Hands
 
 -- the place `self.0`
 abbrev pub self_0 : Solid → Place
@@ -80,38 +80,38 @@ self_0 S = place 1 (deref S.ty ∷ field 0 ∷ [])
 
 module _ {n : ℕ} {S F : Solid} (O : Holds S F) (Xs : List (Arg n)) where
   abbrev pub Handed : Hands → List (Arg n)
-  Handed with-field = value F ∷ Xs
+  Handed with_field = value F ∷ Xs
   Handed without = Xs
 
   abbrev pub handed : (u : Hands) → F.D → Values Xs → Values (Handed u)
-  handed with-field w m = (w, m)
+  handed with_field w m = (w, m)
   handed without w m = m
 
   abbrev pub handed_ends : (u : Hands) → F.D → Ends Xs → Ends (Handed u)
-  handed_ends with-field w e = (w, e)
+  handed_ends with_field w e = (w, e)
   handed_ends without w e = e
 
   -- the types of the locals that the field and the arguments are copied to. In the code that calls, k is the field's, and those of the arguments begin at l
   abbrev pub Copied : Hands → List Ty
-  Copied with-field = F.ty ∷ copies Xs
+  Copied with_field = F.ty ∷ copies Xs
   Copied without = copies Xs
 
   abbrev pub calling : Hands → ℕ → ℕ → Callee → Place → Body → Body
-  calling with-field k l f d rest = seq (assign (place k []) (rv_opd (copy (self_0 S)))) (lending 2 l Xs (seq (call f (copy (place k []) ∷ operands 2 l Xs) d) rest))
+  calling with_field k l f d rest = seq (assign (place k []) (rv_opd (copy (self_0 S)))) (lending 2 l Xs (seq (call f (copy (place k []) ∷ operands 2 l Xs) d) rest))
   calling without k l f d rest = lending 2 l Xs (seq (call f (operands 2 l Xs) d) rest)
 
   -- they lie there
   abbrev pub Placed : (u : Hands) → List (Ty × ℕ) → ℕ → ℕ → Blocks (Copied u) → Type 0
-  Placed with-field E k l cs = Lie E k (F.ty ∷ []) (cs.0, tt) × Lie E l (copies Xs) cs.1
+  Placed with_field E k l cs = Lie E k (F.ty ∷ []) (cs.0, tt) × Lie E l (copies Xs) cs.1
   Placed without E k l cs = Lie E l (copies Xs) cs
 
   -- one after the other from k on, the arguments' begin at
   abbrev pub behind : Hands → ℕ → ℕ
-  behind with-field k = suc k
+  behind with_field k = suc k
   behind without k = k
 
   pub in_order : (u : Hands) (E : List (Ty × ℕ)) (k : ℕ) (cs : Blocks (Copied u)) → Lie E k (Copied u) cs → Placed u E k (behind u k) cs
-  in_order with-field E k cs is = ((_, is.1), lie_next E k F.ty (copies Xs) cs is)
+  in_order with_field E k cs is = ((_, is.1), lie_next E k F.ty (copies Xs) cs is)
   in_order without E k cs is = is
 
   -- what the core has of its parameters, by what the entry has of its arguments
@@ -127,21 +127,21 @@ module _ {n : ℕ} {S F : Solid} (O : Holds S F) (Xs : List (Arg n)) where
       operand_values = flat (rows own_seat κs.1 (Handed u)) (machines own_seat κs.1 (Handed u) params)
 
     abbrev among : (u : Hands) (w : F.D) → Lasts own_seat κs.1 (Handed u) (params u w) → Lasts own_seat κs.1 Xs (passed κs Xs a)
-    among with-field w ws = ws.1
+    among with_field w ws = ws.1
     among without w ws = ws
 
     learned : (u : Hands) (w : F.D) (φ : Values (Handed u) → Ends (Handed u) → Type 0) (ws : Lasts own_seat κs.1 (Handed u) (params u w)) → φ (values own_seat κs.1 (Handed u) (params u w)) (endings own_seat κs.1 (Handed u) (params u w) ws)
         → φ (handed u w m) (handed_ends u w (endings entry_seat κs Xs a (over κs Xs a (among u w ws))))
-    learned with-field w φ ws e = passed_back κs Xs a ws.1 (λ m' e'. φ (w, m') (w, e')) e
+    learned with_field w φ ws e = passed_back κs Xs a ws.1 (λ m' e'. φ (w, m') (w, e')) e
     learned without w φ ws e = passed_back κs Xs a ws φ e
 
     module _ {M : Type 1} {𝓤 : Ura M} (𝓛 : Logic 𝓤) where
       asked : (u : Hands) (w : F.D) → Fits F w → ent 𝓤 (sem 𝓛 (owns (rows entry_seat κs Xs) a (machines entry_seat κs Xs a))) (sem 𝓛 (owns (rows own_seat κs.1 (Handed u)) (params u w) (machines own_seat κs.1 (Handed u) (params u w))))
-      asked with-field w fits = via 𝓤 _ (emp∗ 𝓤 _) (mono∗ 𝓤 (F.makes 𝓛 w (vals F w) fits) (handed_over 𝓛 κs Xs a))
+      asked with_field w fits = via 𝓤 _ (emp∗ 𝓤 _) (mono∗ 𝓤 (F.makes 𝓛 w (vals F w) fits) (handed_over 𝓛 κs Xs a))
       asked without w fits = handed_over 𝓛 κs Xs a
 
       left_over : (u : Hands) (w : F.D) (ws : Lasts own_seat κs.1 (Handed u) (params u w)) → ent 𝓤 (sem 𝓛 (said own_seat κs.1 (Handed u) (params u w) ws)) (sem 𝓛 (had κs Xs a (over κs Xs a (among u w ws))))
-      left_over with-field w ws = via 𝓤 _ (snd∗ 𝓤 (emp 𝓤) _) (given_up 𝓛 κs Xs a ws.1)
+      left_over with_field w ws = via 𝓤 _ (snd∗ 𝓤 (emp 𝓤) _) (given_up 𝓛 κs Xs a ws.1)
       left_over without w ws = given_up 𝓛 κs Xs a ws
 
   module _ {M : Type 1} {𝓤 : Ura M} {𝓛 : Logic 𝓤} {K : Type 0} {Γ : List (Item 𝓤)} {C : Calls 𝓤 𝓛.H} {Λ : Loops 𝓤 𝓛.H} {f : Callee} {p : Post 𝓤 𝓛.H} {d : Place} {rest : Body} {E : Env 𝓤 𝓛.H} {xs : List Operand} where
@@ -175,11 +175,11 @@ module _ {n : ℕ} {S F : Solid} (O : Holds S F) (Φ : Frame n) (ls : Laid Φ) {
       ∷ raw (toks 𝓛 n κs.1 qs) ∷ ‵ (had κs Φ.args a ws) ∷ Γ) (lands C Λ (frame_at Φ ls) d (Z.val z) rest p))
       → Seq K 𝓛 (‵ (fat full_share Φ.lent ls.1 zero (vptr b o)) ∷ ‵ (cells Φ.args ls.2 (values entry_seat κs Φ.args a)) ∷ ‵ (cell F q b o w) ∷ ‵ (rooms (Copied O Φ.args u) cs)
       ∷ raw (toks 𝓛 n κs.1 qs) ∷ ‵ (owns (rows entry_seat κs Φ.args) a (machines entry_seat κs Φ.args a)) ∷ Γ) (runs C Λ (frame_at Φ ls) (calling O Φ.args u k l f d rest) p)
-  hands t fm with-field Z Ens known w w_fits κs qs a a_fit k l cs lie next =
+  hands t fm with_field Z Ens known w w_fits κs qs a a_fit k l cs lie next =
       move t (3 ∷ []) $ fsplit t $
       -- [room for the field's copy; room for the others; the reference; the arguments; the field; the tokens; what the arguments own]
       assigns t (of_opd t (load t (from t (hop t (look t 2 refl) (fld t (place_is O) (stop t)))) (look t 4 refl))) (local_at t lie.0.1) (init t 0 refl (F.typed 𝓛 w _ w_fits).0) $ move t (3 ∷ 1 ∷ 5 ∷ 6 ∷ []) $
-      passes_on O Φ.args t fm with-field Z Ens known w w_fits κs qs a a_fit ls.2 cs.1 l (args_at Φ ls) lie.1 (λ os. and_then t (load t (local_at t lie.0.1) (look t 3 refl)) os) (λ z ws e z_fits.
+      passes_on O Φ.args t fm with_field Z Ens known w w_fits κs qs a a_fit ls.2 cs.1 l (args_at Φ ls) lie.1 (λ os. and_then t (load t (local_at t lie.0.1) (look t 3 refl)) os) (λ z ws e z_fits.
       -- [the arguments; room for their copies; the tokens; what is had of them; the field's copy; the reference; the field]
       forget t 4 refl $ move t (4 ∷ 1 ∷ []) $ fjoin t $ move t (4 ∷ 1 ∷ 5 ∷ 0 ∷ 2 ∷ 3 ∷ []) $ next z ws e z_fits)
   hands t fm without Z Ens known w w_fits κs qs a a_fit k l cs lie next =

@@ -15,7 +15,7 @@ use Rattle.lend.proofs.Locals.{Blocks, rooms, past, Lie, lie_next}
 use Rattle.lend.proofs.Args.{tys}
 use Rattle.lend.proofs.Again.{copies}
 use Rattle.lend.proofs.Field.{Holds}
-use Rattle.lend.proofs.Core.{Hands, with-field, without, Copied, Placed, behind, in_order}
+use Rattle.lend.proofs.Core.{Hands, with_field, without, Copied, Placed, behind, in_order}
 
 -- of three things, the second before the first
 pub swaps : {M : Type 1} {𝓤 : Ura M} (𝓛 : Logic 𝓤) (P Q R : Fml) → ent 𝓤 (sem 𝓛 (fsep P (fsep Q R))) (sem 𝓛 (fsep Q (fsep P R)))
@@ -72,7 +72,7 @@ module _ {n : ℕ} {S F : Solid} (O : Holds S F) (Xs : List (Arg n)) where
   }
 
   -- the field's comes first: let w = self.0; self.0 = core(w, ..);
-  abbrev pub field_first : (τ : Ty) → Laying O Xs with-field τ
+  abbrev pub field_first : (τ : Ty) → Laying O Xs with_field τ
   field_first τ = record {
     own = F.ty ∷ τ ∷ copies Xs;
     at_result = suc (past 2 (tys Xs));
@@ -89,5 +89,5 @@ module _ {n : ℕ} {S F : Solid} (O : Holds S F) (Xs : List (Arg n)) where
 
   -- the one of the two that the body begins with
   abbrev pub laid : (u : Hands) (τ : Ty) → Body → Laying O Xs u τ
-  laid with-field τ code = cond (eqb (first_local code) (past 2 (tys Xs))) (field_first τ) (result_first with-field τ)
+  laid with_field τ code = cond (eqb (first_local code) (past 2 (tys Xs))) (field_first τ) (result_first with_field τ)
   laid without τ code = result_first without τ

@@ -10,12 +10,12 @@
 -- Its core is `quire_steps::add_posit(q, p)`, which ensures result ≡ words 512 (plus 512 (from_words 512 q) (of_posit 2 31 p.0)). The entry's clause is the core's, with the field at entry for q and the field at exit for result. Its proof:
 --
 --     add_posit_spec 𝓤 𝓛 𝓜 𝓡 wired =
---         writes 0 with-field quire_holds (value posit ∷ []) (λ (ws, (p, _)) r _. r ≡ words 512 (plus 512 (from_words 512 ws) (of_posit 2 31 p.0))) code.function 𝓤
+--         writes 0 with_field quire_holds (value posit ∷ []) (λ (ws, (p, _)) r _. r ≡ words 512 (plus 512 (from_words 512 ws) (of_posit 2 31 p.0))) code.function 𝓤
 --         𝓡.env key.name _ _ refl 𝓛 𝓜 𝓡 (core.met 𝓤 𝓛 𝓜 𝓡 (code.calls-quire_steps::add_posit 𝓡.env wired)) (code.unfolded 𝓤 𝓛.H 𝓜 𝓡 wired)
 --
 --     writes               the shape: what the core returns is stored. `stores`, `answers` and `shows` are the other three
 --     0                    how many lifetimes the core has: one for each slice that it is lent
---     with-field           the core is handed the field's value before the arguments; `without`, the arguments alone
+--     with_field           the core is handed the field's value before the arguments; `without`, the arguments alone
 --     quire_holds          that the struct holds this field and nothing else (Solids.antt of `quire32`)
 --     value posit ∷ []     the arguments: each a type by value, or `slice j tt (uint w8)` for a `&[u8]`, `slice_mut` for a `&mut [u8]`, at the core's lifetime j
 --     λ (ws, (p, _)) r _.  the core's fact: of what it is handed, of what it returns, and of what it was handed as that is at exit

@@ -1,3 +1,2 @@
--- The types of the entries and the functions that they call, for the laws that serve them all.
+-- The types of the entries and what a `Q32E2` holds, for the laws of `lend`.
 pub mod Solids
-pub mod Cores

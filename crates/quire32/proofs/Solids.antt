@@ -1,11 +1,8 @@
 -- The types that the methods of `Q32E2` take, as `lend` has types by value, and that a `Q32E2` holds its words and nothing else.
-use mathlib.Core.Path.{refl, sym, subst}
-use mathlib.Core.List.{List, map-id}
-use Prim.Native.Nat.{ℕ}
+use Rattle.std.proofs.Common.{refl}
 use mir.Syntax.{w64}
-use denote.Shadow.{shadow}
 use denote.Struct.Laws.{owed}
-use Rattle.lend.proofs.Solid.{Solid, Fits, vals, uint, array, struct}
+use Rattle.lend.proofs.Solid.{Solid, vals, uint, array, struct}
 use Rattle.lend.proofs.Field.{Holds}
 use Rattle.p32e2.specs.contracts.P32E2 as P
 use Rattle.p32e2.proofs.P32E2.TheLaws as P'
@@ -21,7 +18,6 @@ quire = struct Q.the_type Q'.the_laws Q'.lowers Q'.the_plain Q'.the_copy
 abbrev pub words : Solid
 words = array (uint w64) 8
 
--- the generated type reaches an array by `map` of the identity
 abbrev pub quire_holds : Holds quire words
 quire_holds = record {
   name = (Q.the_type).name;
@@ -30,6 +26,6 @@ quire_holds = record {
   got = λ ws. refl;
   ty_is = refl;
   val_is = λ q. refl;
-  part = λ q fits. subst (Fits words) (map-id q.0) (owed Q.the_type Q'.the_laws q _ fits).0;
-  whole = λ ws fits. ((vals words ws, tt), (refl, (subst (λ (xs : List ℕ). shadow (words.own xs (vals words ws))) (sym (map-id ws)) fits, tt)));
+  part = λ q fits. (owed Q.the_type Q'.the_laws q _ fits).0;
+  whole = λ ws fits. ((vals words ws, tt), (refl, (fits, tt)));
 }
