@@ -2,6 +2,6 @@
 pub mod Spelt
 pub mod Summed
 pub mod Refused
-pub mod Solids
 pub mod Computing
 mod Vectors
+pub mod Solids

@@ -1,8 +1,7 @@
 -- The types that the cores take and return, as `lend` has types by value, and what an entry reads off each: the words, and the answer.
-use mathlib.Core.Path.{refl, subst}
-use mathlib.Core.List.{map-id}
+use Rattle.std.proofs.Common.{refl}
 use denote.Struct.Laws.{owed}
-use Rattle.lend.proofs.Solid.{Solid, Fits, fitted, struct, enum}
+use Rattle.lend.proofs.Solid.{Solid, fitted, struct, enum}
 use Rattle.lend.proofs.Reading.{Has, has}
 use Rattle.quire32.proofs.Solids.{words}
 use Rattle.desk.specs.contracts.image.ReadAnswer as A
@@ -26,7 +25,7 @@ abbrev pub image_read : Solid
 image_read = struct I.the_type I'.the_laws I'.lowers I'.the_plain I'.the_copy
 
 abbrev pub read_words : Has image_read 0 words
-read_words = has (λ r. r.words) refl refl (λ r. refl) (λ r. refl) (λ r fits. subst (Fits words) (map-id r.words) (owed I.the_type I'.the_laws r _ fits).0)
+read_words = has (λ r. r.words) refl refl (λ r. refl) (λ r. refl) (λ r fits. (owed I.the_type I'.the_laws r _ fits).0)
 
 abbrev pub read_answered : Has image_read 1 read_answer
 read_answered = has (λ r. r.answer) refl refl (λ r. refl) (λ r. refl) (λ r fits. fitted read_answer r.answer _ (owed I.the_type I'.the_laws r _ fits).1.0)
@@ -38,7 +37,7 @@ abbrev pub batch_added : Solid
 batch_added = struct C.the_type C'.the_laws C'.lowers C'.the_plain C'.the_copy
 
 abbrev pub added_words : Has batch_added 0 words
-added_words = has (λ r. r.words) refl refl (λ r. refl) (λ r. refl) (λ r fits. subst (Fits words) (map-id r.words) (owed C.the_type C'.the_laws r _ fits).0)
+added_words = has (λ r. r.words) refl refl (λ r. refl) (λ r. refl) (λ r fits. (owed C.the_type C'.the_laws r _ fits).0)
 
 abbrev pub added_answer : Has batch_added 1 batch_answer
 added_answer = has (λ r. r.answer) refl refl (λ r. refl) (λ r. refl) (λ r fits. fitted batch_answer r.answer _ (owed C.the_type C'.the_laws r _ fits).1.0)

@@ -80,7 +80,7 @@ pub fn write_image(q: [u64; 8], buffer: &mut [u8]) -> WriteAnswer
         return WriteAnswer::BufferTooShort;
     }
     let image = image_of(q);
-    bytes::copy(&image, buffer);
+    buffer[..IMAGE_LENGTH].copy_from_slice(&image);
     WriteAnswer::Written
 }
 

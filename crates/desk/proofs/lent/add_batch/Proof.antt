@@ -18,7 +18,6 @@ use Rattle.desk.proofs.lent.add_batch.Statement as stated
 use Rattle.desk.proofs.lent.add_batch.Code as code
 
 pub add_batch_spec : {M : Type 1} → stated.statement M
-unfolding code.routine
-add_batch_spec 𝓤 𝓛 𝓜 𝓡 =
+add_batch_spec 𝓤 𝓛 𝓜 𝓡 w =
     stores 2 with_field quire_holds (slice 0 tt (uint w32) ∷ slice 1 tt (uint w32) ∷ []) (part 0 added_words) (part 1 added_answer) (λ (ws, (a, (b, _))) ws' r _. (batch_number r ≡ batch_refusal a.now b.now) × (ws' ≡ words 512 (after_batch 2 31 512 (from_words 512 ws) a.now b.now))) code.function 𝓤
-    code.env key.name _ _ refl 𝓛 𝓜 𝓡 (core.met 𝓤 𝓛 𝓜 𝓡) (code.unfolded 𝓤 𝓛.H 𝓜 𝓡)
+    𝓡.env key.name _ _ refl 𝓛 𝓜 𝓡 (core.met 𝓤 𝓛 𝓜 𝓡 (code.calls-desk::batch::add_batch 𝓡.env w)) (code.unfolded 𝓤 𝓛.H 𝓜 𝓡 w)

@@ -18,7 +18,6 @@ use Rattle.desk.proofs.lent.read_image.Statement as stated
 use Rattle.desk.proofs.lent.read_image.Code as code
 
 pub read_image_spec : {M : Type 1} → stated.statement M
-unfolding code.routine
-read_image_spec 𝓤 𝓛 𝓜 𝓡 =
+read_image_spec 𝓤 𝓛 𝓜 𝓡 w =
     stores 1 with_field quire_holds (slice 0 tt (uint w8) ∷ []) (part 0 read_words) (part 1 read_answered) (λ (ws, (bs, _)) ws' r _. (read_number r ≡ length_refusal 512 bs.now) × (ws' ≡ words 512 (read_into 512 (from_words 512 ws) bs.now))) code.function 𝓤
-    code.env key.name _ _ refl 𝓛 𝓜 𝓡 (core.met 𝓤 𝓛 𝓜 𝓡) (code.unfolded 𝓤 𝓛.H 𝓜 𝓡)
+    𝓡.env key.name _ _ refl 𝓛 𝓜 𝓡 (core.met 𝓤 𝓛 𝓜 𝓡 (code.calls-desk::image::read_image 𝓡.env w)) (code.unfolded 𝓤 𝓛.H 𝓜 𝓡 w)

@@ -1,0 +1,24 @@
+-- `is_same` meets its contract: what was found so far, and what is left to compare, are together the answer (`same_more`).
+use mathlib.Core.Path.{◌≡◌, refl, sym, ◌∙◌}
+use native.Mathlib.Omega.{arith}
+use borrow.Author.Rules.{rules}
+use lib.ListN.{length}
+use Rattle.desk.proofs.Summed.{same_more, same_end}
+use Rattle.desk.proofs.claim.is_same.Goals as goal
+
+pub loop-i-init : goal.loop-i-init
+loop-i-init c = (search rules, refl)
+
+pub loop-i-preserved : goal.loop-i-preserved
+loop-i-preserved c =
+    let k = c in
+    let long : length k.args.image ≡ 64 = search rules in
+    let h = c.loop-i.invariant in
+    (search rules, sym (same_more c.loop-i.equal k.args.image k.args.claim.now c.loop-i.i (omega arith) (omega (arith, k.requires))) ∙ h.1)
+
+pub returns : goal.returns
+returns c =
+    let k = c in
+    let long : length k.args.image ≡ 64 = search rules in
+    let h = c.loop-i.invariant in
+    sym (same_end c.loop-i.equal k.args.image k.args.claim.now c.loop-i.i (omega arith) (omega (arith, k.requires))) ∙ h.1
