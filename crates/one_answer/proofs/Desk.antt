@@ -2,40 +2,41 @@
 use mathlib.Core.Path.{refl, sym, ◌∙◌}
 use Rattle.one_answer.specs.Fixes.{Fixes, FixesLent}
 use Rattle.one_answer.proofs.Determined.{write_answer, read_answer, batch_answer, claim_answer}
+use Rattle.desk.specs.contracts as of_desk
 use Rattle.desk.proofs as desk
 
-pub desk_image_of_fixes : Fixes desk.image.image_of.ended desk.image.image_of.Reads.Pre desk.image.image_of.Reads.Post
+pub desk_image_of_fixes : Fixes of_desk.image.image_of.ended desk.image.image_of.Reads.Pre desk.image.image_of.Reads.Post
 desk_image_of_fixes = record { answers = λ κs a. tt; one = λ κs a x y u v p p'. (p ∙ sym p', refl) }
 
-pub desk_write_image_fixes : Fixes desk.image.write_image.ended desk.image.write_image.Reads.Pre desk.image.write_image.Reads.Post
+pub desk_write_image_fixes : Fixes of_desk.image.write_image.ended desk.image.write_image.Reads.Pre desk.image.write_image.Reads.Post
 desk_write_image_fixes = record { answers = λ κs a. tt; one = λ κs a x y u v p p'. (write_answer x y (p.0 ∙ sym p'.0), λ i. (tt, ((p.1 ∙ sym p'.1) i, tt))) }
 
-pub desk_read_image_fixes : Fixes desk.image.read_image.ended desk.image.read_image.Reads.Pre desk.image.read_image.Reads.Post
+pub desk_read_image_fixes : Fixes of_desk.image.read_image.ended desk.image.read_image.Reads.Pre desk.image.read_image.Reads.Post
 desk_read_image_fixes = record { answers = λ κs a. tt; one = λ κs a x y u v p p'. (λ i. record { words = (p.1 ∙ sym p'.1) i; answer = read_answer x.answer y.answer (p.0 ∙ sym p'.0) i }, refl) }
 
-pub desk_add_batch_fixes : Fixes desk.batch.add_batch.ended desk.batch.add_batch.Reads.Pre desk.batch.add_batch.Reads.Post
+pub desk_add_batch_fixes : Fixes of_desk.batch.add_batch.ended desk.batch.add_batch.Reads.Pre desk.batch.add_batch.Reads.Post
 desk_add_batch_fixes = record { answers = λ κs a. tt; one = λ κs a x y u v p p'. (λ i. record { words = (p.1 ∙ sym p'.1) i; answer = batch_answer x.answer y.answer (p.0 ∙ sym p'.0) i }, refl) }
 
-pub desk_check_claim_fixes : Fixes desk.claim.check_claim.ended desk.claim.check_claim.Reads.Pre desk.claim.check_claim.Reads.Post
+pub desk_check_claim_fixes : Fixes of_desk.claim.check_claim.ended desk.claim.check_claim.Reads.Pre desk.claim.check_claim.Reads.Post
 desk_check_claim_fixes = record { answers = λ κs a. tt; one = λ κs a x y u v p p'. (claim_answer x y (p ∙ sym p'), refl) }
 
-pub desk_write_number_fixes : Fixes desk.image.WriteAnswer.number.ended desk.image.WriteAnswer.number.Reads.Pre desk.image.WriteAnswer.number.Reads.Post
+pub desk_write_number_fixes : Fixes of_desk.image.WriteAnswer.number.ended desk.image.WriteAnswer.number.Reads.Pre desk.image.WriteAnswer.number.Reads.Post
 desk_write_number_fixes = record { answers = λ κs a. tt; one = λ κs a x y u v p p'. (p ∙ sym p', refl) }
 
-pub desk_read_number_fixes : Fixes desk.image.ReadAnswer.number.ended desk.image.ReadAnswer.number.Reads.Pre desk.image.ReadAnswer.number.Reads.Post
+pub desk_read_number_fixes : Fixes of_desk.image.ReadAnswer.number.ended desk.image.ReadAnswer.number.Reads.Pre desk.image.ReadAnswer.number.Reads.Post
 desk_read_number_fixes = record { answers = λ κs a. tt; one = λ κs a x y u v p p'. (p ∙ sym p', refl) }
 
-pub desk_batch_number_fixes : Fixes desk.batch.BatchAnswer.number.ended desk.batch.BatchAnswer.number.Reads.Pre desk.batch.BatchAnswer.number.Reads.Post
+pub desk_batch_number_fixes : Fixes of_desk.batch.BatchAnswer.number.ended desk.batch.BatchAnswer.number.Reads.Pre desk.batch.BatchAnswer.number.Reads.Post
 desk_batch_number_fixes = record { answers = λ κs a. tt; one = λ κs a x y u v p p'. (p ∙ sym p', refl) }
 
-pub desk_claim_number_fixes : Fixes desk.claim.ClaimAnswer.number.ended desk.claim.ClaimAnswer.number.Reads.Pre desk.claim.ClaimAnswer.number.Reads.Post
+pub desk_claim_number_fixes : Fixes of_desk.claim.ClaimAnswer.number.ended desk.claim.ClaimAnswer.number.Reads.Pre desk.claim.ClaimAnswer.number.Reads.Post
 desk_claim_number_fixes = record { answers = λ κs a. tt; one = λ κs a x y u v p p'. (p ∙ sym p', refl) }
 
-unfoldable pub desk_lent_write_image_fixes : FixesLent desk.lent.write_image.ended (λ M 𝓤. desk.lent.write_image.clauses 𝓤)
+unfoldable pub desk_lent_write_image_fixes : FixesLent of_desk.lent.write_image.ended (λ M 𝓤 𝓛. of_desk.lent.write_image.clauses 𝓛)
 desk_lent_write_image_fixes = record { Post = _; says = λ M 𝓤 𝓛 mem run κs a g x s. refl; answers = λ M 𝓤 𝓛 mem run κs a. (tt, refl); fixes = record { answers = λ κs a. tt; one = λ κs a x y u v p p'. (write_answer x y (p.0 ∙ sym p'.0), λ i. (u.0, ((p.1 ∙ sym p'.1) i, u.1.1))) } }
 
-unfoldable pub desk_lent_read_image_fixes : FixesLent desk.lent.read_image.ended (λ M 𝓤. desk.lent.read_image.clauses 𝓤)
+unfoldable pub desk_lent_read_image_fixes : FixesLent of_desk.lent.read_image.ended (λ M 𝓤 𝓛. of_desk.lent.read_image.clauses 𝓛)
 desk_lent_read_image_fixes = record { Post = _; says = λ M 𝓤 𝓛 mem run κs a g x s. refl; answers = λ M 𝓤 𝓛 mem run κs a. (tt, refl); fixes = record { answers = λ κs a. tt; one = λ κs a x y u v p p'. (read_answer x y (p.0 ∙ sym p'.0), λ i. (record { 0 = (p.1 ∙ sym p'.1) i }, u.1)) } }
 
-unfoldable pub desk_lent_add_batch_fixes : FixesLent desk.lent.add_batch.ended (λ M 𝓤. desk.lent.add_batch.clauses 𝓤)
+unfoldable pub desk_lent_add_batch_fixes : FixesLent of_desk.lent.add_batch.ended (λ M 𝓤 𝓛. of_desk.lent.add_batch.clauses 𝓛)
 desk_lent_add_batch_fixes = record { Post = _; says = λ M 𝓤 𝓛 mem run κs a g x s. refl; answers = λ M 𝓤 𝓛 mem run κs a. (tt, refl); fixes = record { answers = λ κs a. tt; one = λ κs a x y u v p p'. (batch_answer x y (p.0 ∙ sym p'.0), λ i. (record { 0 = (p.1 ∙ sym p'.1) i }, u.1)) } }

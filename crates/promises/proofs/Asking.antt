@@ -7,7 +7,7 @@ use mathlib.Core.HLevel.{⊥_prop}
 use base.Logic.{SProp, emp}
 use contract.Monad.{Fun, fact}
 use denote.Triple.Entry.{Args}
-use denote.Triple.Clauses.{Ended, Lasts, AtExit, atExit}
+use denote.Triple.Clauses.{Ended, Lasts, AtExit, at_exit}
 use ghost.Model.{Res, 𝓤}
 use contract.BorrowModel.{logic₀}
 use prog.Memory.{Memory}
@@ -31,10 +31,10 @@ module _ (T : Ended) where
 
   pub nothing_lacking_lent : (clauses : Stated T) (asked : Before T) → AsksFor T clauses asked → AnswersLent T clauses → (κs : Lifetimes T) (a : Args T.signature κs) → (asked κs a → ⊥) → ⊥
   nothing_lacking_lent clauses asked asks answers κs a lacks =
-      let r = answers Res logic₀ no_memory no_calls κs a in
-      fact_of_empty (asked κs a) (sym (asks Res logic₀ no_memory no_calls κs a r.0) ∙ r.1) lacks
+      let r = answers Res 𝓤 logic₀ no_memory no_calls κs a in
+      fact_of_empty (asked κs a) (sym (asks Res 𝓤 logic₀ no_memory no_calls κs a r.0) ∙ r.1) lacks
 
   -- what is untouched is at exit as it was
   pub as_it_was : {X : Lifetimes T → Type 0} (exit_part : (κs : Lifetimes T) → AtExit T κs → X κs) (entry_part : (κs : Lifetimes T) → Args T.signature κs → X κs)
-      → Untouched T exit_part entry_part → (κs : Lifetimes T) (a : Args T.signature κs) (u : Lasts T κs a) → exit_part κs (atExit T κs a u) ≡ entry_part κs a
+      → Untouched T exit_part entry_part → (κs : Lifetimes T) (a : Args T.signature κs) (u : Lasts T κs a) → exit_part κs (at_exit T κs a u) ≡ entry_part κs a
   as_it_was exit_part entry_part untouched = untouched

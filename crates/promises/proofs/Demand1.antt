@@ -10,8 +10,8 @@ use Rattle.posit.specs.Digits.{InBase}
 use Rattle.posit.specs.Accumulator.{clear, is_clear, is_not_real, of_posit, negated, to_posit, words, from_words}
 use Rattle.desk.specs.Desk.{written_to, read_into, after_batch}
 use Rattle.desk.specs.Answers.{write_number, read_number, batch_number, claim_number}
-use Rattle.desk.proofs as desk
-use Rattle.capi.proofs as capi
+use Rattle.desk.specs.contracts as of_desk
+use Rattle.capi.specs.contracts as of_capi
 use Rattle.promises.specs.Contract.{Untouched}
 use Rattle.quire_steps.specs.Sign.{sign_off}
 use Rattle.promises.specs.History.{Direction}
@@ -110,16 +110,16 @@ refused_batch_stays way q xs ys n r t a o = let s = adds_says way q xs ys n r a 
 
 -- what is lent to be read, the lists, the claim and the bytes, the accumulator whose image is written and the one that is added or taken, is at exit as it was
 pub what_is_read_stays :
-    Untouched desk.batch.add_batch.ended (λ κs s. s) (λ κs a. a)
-    × Untouched desk.claim.check_claim.ended (λ κs s. s) (λ κs a. a)
-    × Untouched desk.image.read_image.ended (λ κs s. s) (λ κs a. a)
-    × Untouched capi.claims.stallhitch_check_claim.ended (λ κs s. s) (λ κs a. a)
-    × Untouched desk.lent.add_batch.ended (λ κs s. s.1) (λ κs a. a.1)
-    × Untouched desk.lent.read_image.ended (λ κs s. s.1) (λ κs a. a.1)
-    × Untouched capi.claims.stallhitch_add_batch.ended (λ κs s. s.1) (λ κs a. a.1)
-    × Untouched capi.claims.stallhitch_read_image.ended (λ κs s. s.1) (λ κs a. a.1)
-    × Untouched desk.lent.write_image.ended (λ κs s. s.0) (λ κs a. a.0)
-    × Untouched capi.claims.stallhitch_write_image.ended (λ κs s. s.0) (λ κs a. a.0)
-    × Untouched capi.accumulators.stallhitch_q32e2_qAddQ.ended (λ κs s. s.1) (λ κs a. a.1)
-    × Untouched capi.accumulators.stallhitch_q32e2_qSubQ.ended (λ κs s. s.1) (λ κs a. a.1)
+    Untouched of_desk.batch.add_batch.ended (λ κs s. s) (λ κs a. a)
+    × Untouched of_desk.claim.check_claim.ended (λ κs s. s) (λ κs a. a)
+    × Untouched of_desk.image.read_image.ended (λ κs s. s) (λ κs a. a)
+    × Untouched of_capi.claims.stallhitch_check_claim.ended (λ κs s. s) (λ κs a. a)
+    × Untouched of_desk.lent.add_batch.ended (λ κs s. s.1) (λ κs a. a.1)
+    × Untouched of_desk.lent.read_image.ended (λ κs s. s.1) (λ κs a. a.1)
+    × Untouched of_capi.claims.stallhitch_add_batch.ended (λ κs s. s.1) (λ κs a. a.1)
+    × Untouched of_capi.claims.stallhitch_read_image.ended (λ κs s. s.1) (λ κs a. a.1)
+    × Untouched of_desk.lent.write_image.ended (λ κs s. s.0) (λ κs a. a.0)
+    × Untouched of_capi.claims.stallhitch_write_image.ended (λ κs s. s.0) (λ κs a. a.0)
+    × Untouched of_capi.accumulators.stallhitch_q32e2_qAddQ.ended (λ κs s. s.1) (λ κs a. a.1)
+    × Untouched of_capi.accumulators.stallhitch_q32e2_qSubQ.ended (λ κs s. s.1) (λ κs a. a.1)
 what_is_read_stays = (λ κs a u. refl, λ κs a u. refl, λ κs a u. refl, λ κs a u. refl, λ κs a u. refl, λ κs a u. refl, λ κs a u. refl, λ κs a u. refl, λ κs a u. refl, λ κs a u. refl, λ κs a u. refl, λ κs a u. refl)

@@ -104,9 +104,9 @@ ratio_sound y k n z = (mul-pos z (pow_pos (unit 2 31)), k)
 pub divided_proper : (x y : ℤ) → y ≢ pos 0 → Proper (divided x y)
 unfolding divided
 divided_proper x (pos zero) h = absurd (h refl)
-divided_proper x (pos (suc y)) h = sized_proper _ (ratio_sound (suc y) (omega arith)) x
-divided_proper x (negsuc y) h = sized_proper _ (ratio_sound (suc y) (omega arith)) (neg_ℤ x)
+divided_proper x (pos (suc y)) h = sized_proper (λ (n : ℕ). ratio (n * 2 ^ unit 2 31) (suc y)) (ratio_sound (suc y) (omega arith)) x
+divided_proper x (negsuc y) h = sized_proper (λ (n : ℕ). ratio (n * 2 ^ unit 2 31) (suc y)) (ratio_sound (suc y) (omega arith)) (neg_ℤ x)
 
 pub root_proper : (x : ℤ) → Proper (root_of x)
 unfolding root_of
-root_proper x = sized_proper _ (λ n z. mul-pos z (pow_pos (unit 2 31))) x
+root_proper x = sized_proper (λ (n : ℕ). root (n * 2 ^ unit 2 31)) (λ n z. mul-pos z (pow_pos (unit 2 31))) x

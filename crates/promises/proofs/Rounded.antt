@@ -41,6 +41,7 @@ nar_through p r e = go (ℕ_discrete p (nar 31))
     go (no h) = rw (ne_eqb p (nar 31) h) e
 
 any_nar : (ps : List ℕ) (r : ℕ) → NarAmong ps → unless_any ps r ≡ nar 31
+any_nar [] r n = absurd n
 any_nar (p ∷ ps) r (inl e) = rw (eq-eqb p (nar 31) e)
 any_nar (p ∷ ps) r (inr n) = nar_through p (unless_any ps r) (any_nar ps r n)
 

@@ -19,33 +19,33 @@ use Rattle.capi.proofs.claims.stallhitch_read_image.Reads as c_read
 use Rattle.capi.proofs.claims.stallhitch_add_batch.Reads as c_batch
 use Rattle.capi.proofs.claims.stallhitch_check_claim.Reads as c_claim
 use Rattle.promises.specs.Contract.{Plain}
-use Rattle.promises.specs.Ways.{Way, by_value, lent, for_c, Place, at, accumulator}
+use Rattle.promises.specs.Ways.{Way, by_value, lent, for_c, Place, at, at_mut, accumulator}
 
 -- ---- the functions that are lent the accumulator: what their clauses say, as plain facts
 
-abbrev pub write_lent : Plain of_write.ended (λ M 𝓤. of_write.clauses 𝓤)
+abbrev pub write_lent : Plain of_write.ended (λ M 𝓤 𝓛. of_write.clauses 𝓛)
 write_lent = record { Post = _; says = λ M 𝓤 𝓛 mem run κs a g x s. refl }
 
-abbrev pub read_lent : Plain of_read.ended (λ M 𝓤. of_read.clauses 𝓤)
+abbrev pub read_lent : Plain of_read.ended (λ M 𝓤 𝓛. of_read.clauses 𝓛)
 read_lent = record { Post = _; says = λ M 𝓤 𝓛 mem run κs a g x s. refl }
 
-abbrev pub batch_lent : Plain of_batch.ended (λ M 𝓤. of_batch.clauses 𝓤)
+abbrev pub batch_lent : Plain of_batch.ended (λ M 𝓤 𝓛. of_batch.clauses 𝓛)
 batch_lent = record { Post = _; says = λ M 𝓤 𝓛 mem run κs a g x s. refl }
 
 -- ---- the image of the words q is to be written to the buffer b: the number is n, and the buffer is left as c
 abbrev pub Writing : Way → List ℕ → List ℕ → ℕ → List ℕ → Type 0
-Writing by_value q b n c = (κs : Lfts 1) × (m : Place) × (r : WriteAnswer) × write.Post κs (q, (at m b, tt)) r (q, (at m c, tt)) × (write_number r ≡ n)
+Writing by_value q b n c = (κs : Lfts 1) × (m : Place) × (r : WriteAnswer) × write.Post κs (q, (at_mut m b, tt)) r (q, (at_mut m c, tt)) × (write_number r ≡ n)
 Writing lent q b n c =
-    (κs : Lfts 2) × (l m : Place) × (r : WriteAnswer) × write_lent.Post κs (at l (accumulator q), (at m b, tt)) r (at l (accumulator q), (at m c, tt)) × (write_number r ≡ n)
-Writing for_c q b n c = (κs : Lfts 2) × (l m : Place) × c_write.Post κs (at l q, (at m b, tt)) n (at l q, (at m c, tt))
+    (κs : Lfts 2) × (l m : Place) × (r : WriteAnswer) × write_lent.Post κs (at l (accumulator q), (at_mut m b, tt)) r (at l (accumulator q), (at_mut m c, tt)) × (write_number r ≡ n)
+Writing for_c q b n c = (κs : Lfts 2) × (l m : Place) × c_write.Post κs (at l q, (at_mut m b, tt)) n (at l q, (at_mut m c, tt))
 
 -- ---- the bytes bs are to be read into an accumulator with the words q: the number is n, and the words are then r
 abbrev pub Reading : Way → List ℕ → List ℕ → ℕ → List ℕ → Type 0
 Reading by_value q bs n r =
     (κs : Lfts 1) × (m : Place) × (x : ReadAnswer) × read.Post κs (q, (at m bs, tt)) (record { words = r; answer = x }) (q, (at m bs, tt)) × (read_number x ≡ n)
 Reading lent q bs n r =
-    (κs : Lfts 2) × (l m : Place) × (x : ReadAnswer) × read_lent.Post κs (at l (accumulator q), (at m bs, tt)) x (at l (accumulator r), (at m bs, tt)) × (read_number x ≡ n)
-Reading for_c q bs n r = (κs : Lfts 2) × (l m : Place) × c_read.Post κs (at l q, (at m bs, tt)) n (at l r, (at m bs, tt))
+    (κs : Lfts 2) × (l m : Place) × (x : ReadAnswer) × read_lent.Post κs (at_mut l (accumulator q), (at m bs, tt)) x (at_mut l (accumulator r), (at m bs, tt)) × (read_number x ≡ n)
+Reading for_c q bs n r = (κs : Lfts 2) × (l m : Place) × c_read.Post κs (at_mut l q, (at m bs, tt)) n (at_mut l r, (at m bs, tt))
 
 -- ---- the products of the lists xs and ys are to be added to an accumulator with the words q: the number is n, and the words are then r
 abbrev pub Adding : Way → List ℕ → List ℕ → List ℕ → ℕ → List ℕ → Type 0
@@ -55,9 +55,9 @@ Adding by_value q xs ys n r =
     × (batch_number x ≡ n)
 Adding lent q xs ys n r =
     (κs : Lfts 3) × (k l m : Place) × (x : BatchAnswer)
-    × batch_lent.Post κs (at k (accumulator q), (at l xs, (at m ys, tt))) x (at k (accumulator r), (at l xs, (at m ys, tt)))
+    × batch_lent.Post κs (at_mut k (accumulator q), (at l xs, (at m ys, tt))) x (at_mut k (accumulator r), (at l xs, (at m ys, tt)))
     × (batch_number x ≡ n)
-Adding for_c q xs ys n r = (κs : Lfts 3) × (k l m : Place) × c_batch.Post κs (at k q, (at l xs, (at m ys, tt))) n (at k r, (at l xs, (at m ys, tt)))
+Adding for_c q xs ys n r = (κs : Lfts 3) × (k l m : Place) × c_batch.Post κs (at_mut k q, (at l xs, (at m ys, tt))) n (at_mut k r, (at l xs, (at m ys, tt)))
 
 -- ---- the claim cs is to be checked against the batch of xs and ys: the number is n. No accumulator is lent, and there is no second function for it
 abbrev pub Claiming : Way → List ℕ → List ℕ → List ℕ → ℕ → Type 0

@@ -10,7 +10,7 @@ use types.Logic.{Logic}
 use contract.Monad.{Fun, fact}
 use contract.Lifetimes.{Lfts}
 use denote.Triple.Entry.{Args, Res}
-use denote.Triple.Clauses.{Ended, Clauses, Lasts, AtExit, atExit}
+use denote.Triple.Clauses.{Ended, Clauses, Lasts, AtExit, at_exit}
 
 module _ (T : Ended) where
   abbrev pub Lifetimes : Type 0
@@ -41,7 +41,7 @@ module _ (T : Ended) where
 
   -- a part of what was handed in is at exit as it was, whatever the function did: `exit_part` and `entry_part` say which part
   abbrev pub Untouched : {X : Lifetimes → Type 0} → ((κs : Lifetimes) → AtExit T κs → X κs) → ((κs : Lifetimes) → Args T.signature κs → X κs) → Type 0
-  Untouched exit_part entry_part = (κs : Lifetimes) (a : Args T.signature κs) (u : Lasts T κs a) → exit_part κs (atExit T κs a u) ≡ entry_part κs a
+  Untouched exit_part entry_part = (κs : Lifetimes) (a : Args T.signature κs) (u : Lasts T κs a) → exit_part κs (at_exit T κs a u) ≡ entry_part κs a
 
   -- nothing is asked of the caller: the `requires` holds of any arguments
   abbrev pub Answers : Before → Type 0

@@ -161,7 +161,7 @@ Done from_c (mul_sub a b c) r = c_mul_sub.Post tt (a, (b, (c, tt))) r (a, (b, (c
 Done from_c (sub_product c a b) r = c_sub_product.Post tt (c, (a, (b, tt))) r (c, (a, (b, tt)))
 
 -- what the clauses of the method `to_posit` say, which is lent the accumulator
-abbrev pub to_posit_lent : Plain of_to_posit.ended (λ M 𝓤. of_to_posit.clauses 𝓤)
+abbrev pub to_posit_lent : Plain of_to_posit.ended (λ M 𝓤 𝓛. of_to_posit.clauses 𝓛)
 to_posit_lent = record { Post = _; says = λ M 𝓤 𝓛 mem run κs a g x s. refl }
 
 -- the words q meet the contract of the function that makes an accumulator of the posit p; for C there is none
