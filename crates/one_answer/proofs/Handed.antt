@@ -15,7 +15,7 @@ use Rattle.quire_words.specs.Words.{wide}
 use Rattle.quire_steps.specs.Sign.{sign_off}
 use Rattle.one_answer.specs.Engines.{NoConstant, NotAlways, Never}
 use Rattle.one_answer.proofs.Engines.{constant_fails, always_fails, never}
-use Rattle.one_answer.proofs.Arguments.{bits, to, eight, bytes, held, lent}
+use Rattle.one_answer.proofs.Arguments.{bits, to, eight, bytes, held, lent, to_mut, lent_mut}
 use Rattle.one_answer.proofs.Arithmetic.{p32e2_from_bits_fixes, p32e2_to_bits_fixes, p32e2_is_zero_fixes, p32e2_is_nar_fixes}
 use Rattle.one_answer.proofs.Accumulator.{quire32_init_fixes, quire32_from_bits_fixes, quire32_from_posit_fixes, quire32_to_bits_fixes, quire32_to_posit_fixes, quire32_is_zero_fixes, quire32_is_nar_fixes, quire32_neg_fixes, quire32_q_abs_fixes, quire32_clear_fixes, quire32_into_two_posits_fixes, quire32_into_three_posits_fixes}
 use Rattle.one_answer.proofs.Linked.{capi_neg_fixes, capi_add_fixes, capi_sub_fixes, capi_mul_fixes, capi_div_fixes, capi_recip_fixes, capi_sqrt_fixes, capi_mul_add_fixes, capi_mul_sub_fixes, capi_sub_product_fixes, capi_q_clear_fixes, capi_q_add_product_fixes, capi_q_sub_product_fixes, capi_q_add_posit_fixes, capi_q_sub_posit_fixes, capi_q_neg_fixes, capi_q_abs_fixes, capi_q_add_q_fixes, capi_q_sub_q_fixes, capi_q_to_posit_fixes, capi_q_is_zero_fixes, capi_q_is_nar_fixes, capi_write_image_fixes, capi_read_image_fixes, capi_add_batch_fixes, capi_check_claim_fixes}
@@ -64,19 +64,19 @@ quire32_is_nar_not_is_zero = never _ (λ κs a x u p. ap bool_byte p) ([], tt) (
 
 pub quire32_neg_not_idle : Never quire32_neg_fixes.fixes (λ κs a r u. wide u.0.0) (λ κs a. wide a.0.now.0)
 unfolding everything quire32_neg_fixes
-quire32_neg_not_idle = never _ (λ κs a x u p. ap wide p) ([], tt) (lent 1, tt) tt tt
+quire32_neg_not_idle = never _ (λ κs a x u p. ap wide p) ([], tt) (lent_mut 1, tt) tt tt
 
 pub quire32_q_abs_not_idle : Never quire32_q_abs_fixes.fixes (λ κs a r u. wide u.0.0) (λ κs a. wide a.0.now.0)
 unfolding everything sign_off quire32_q_abs_fixes
-quire32_q_abs_not_idle = never _ (λ κs a x u p. ap wide p) ([], tt) (lent (2 ^ 512 - 1), tt) tt tt
+quire32_q_abs_not_idle = never _ (λ κs a x u p. ap wide p) ([], tt) (lent_mut (2 ^ 512 - 1), tt) tt tt
 
 pub quire32_q_abs_not_neg : Never quire32_q_abs_fixes.fixes (λ κs a r u. wide u.0.0) (λ κs a. wide (words 512 (negated (from_words 512 a.0.now.0))))
 unfolding everything sign_off quire32_q_abs_fixes
-quire32_q_abs_not_neg = never _ (λ κs a x u p. ap wide p) ([], tt) (lent 1, tt) tt tt
+quire32_q_abs_not_neg = never _ (λ κs a x u p. ap wide p) ([], tt) (lent_mut 1, tt) tt tt
 
 pub quire32_clear_not_idle : Never quire32_clear_fixes.fixes (λ κs a r u. wide u.0.0) (λ κs a. wide a.0.now.0)
 unfolding everything quire32_clear_fixes
-quire32_clear_not_idle = never _ (λ κs a x u p. ap wide p) ([], tt) (lent 1, tt) tt tt
+quire32_clear_not_idle = never _ (λ κs a x u p. ap wide p) ([], tt) (lent_mut 1, tt) tt tt
 
 -- the last part is zero every time
 pub quire32_into_two_posits_not_one : Never quire32_into_two_posits_fixes (λ κs a r u. r.second.0) (λ κs a. 0)
@@ -132,48 +132,48 @@ capi_sub_product_not_turned = never _ (λ κs a x u p. p) tt (1, (0, (0, tt))) t
 -- ---- accumulators
 pub capi_q_clear_not_idle : Never capi_q_clear_fixes (λ κs a r u. wide u.0) (λ κs a. wide a.0.now)
 unfolding everything
-capi_q_clear_not_idle = never _ (λ κs a x u p. ap wide p) ([], tt) (to (eight 1), tt) tt tt
+capi_q_clear_not_idle = never _ (λ κs a x u p. ap wide p) ([], tt) (to_mut (eight 1), tt) tt tt
 
 pub capi_q_add_product_not_sub : Never capi_q_add_product_fixes (λ κs a r u. wide u.0) (λ κs a. wide (words 512 (minus 512 (from_words 512 a.0.now) (of_product 2 31 a.1.0 a.1.1.0))))
 unfolding everything
-capi_q_add_product_not_sub = never _ (λ κs a x u p. ap wide p) ([], tt) (to (eight 0), (1, (1, tt))) tt tt
+capi_q_add_product_not_sub = never _ (λ κs a x u p. ap wide p) ([], tt) (to_mut (eight 0), (1, (1, tt))) tt tt
 
 pub capi_q_sub_product_not_add : Never capi_q_sub_product_fixes (λ κs a r u. wide u.0) (λ κs a. wide (words 512 (plus 512 (from_words 512 a.0.now) (of_product 2 31 a.1.0 a.1.1.0))))
 unfolding everything
-capi_q_sub_product_not_add = never _ (λ κs a x u p. ap wide p) ([], tt) (to (eight 0), (1, (1, tt))) tt tt
+capi_q_sub_product_not_add = never _ (λ κs a x u p. ap wide p) ([], tt) (to_mut (eight 0), (1, (1, tt))) tt tt
 
 pub capi_q_add_posit_not_sub : Never capi_q_add_posit_fixes (λ κs a r u. wide u.0) (λ κs a. wide (words 512 (minus 512 (from_words 512 a.0.now) (of_posit 2 31 a.1.0))))
 unfolding everything
-capi_q_add_posit_not_sub = never _ (λ κs a x u p. ap wide p) ([], tt) (to (eight 0), (1, tt)) tt tt
+capi_q_add_posit_not_sub = never _ (λ κs a x u p. ap wide p) ([], tt) (to_mut (eight 0), (1, tt)) tt tt
 
 pub capi_q_sub_posit_not_add : Never capi_q_sub_posit_fixes (λ κs a r u. wide u.0) (λ κs a. wide (words 512 (plus 512 (from_words 512 a.0.now) (of_posit 2 31 a.1.0))))
 unfolding everything
-capi_q_sub_posit_not_add = never _ (λ κs a x u p. ap wide p) ([], tt) (to (eight 0), (1, tt)) tt tt
+capi_q_sub_posit_not_add = never _ (λ κs a x u p. ap wide p) ([], tt) (to_mut (eight 0), (1, tt)) tt tt
 
 pub capi_q_neg_not_idle : Never capi_q_neg_fixes (λ κs a r u. wide u.0) (λ κs a. wide a.0.now)
 unfolding everything
-capi_q_neg_not_idle = never _ (λ κs a x u p. ap wide p) ([], tt) (to (eight 1), tt) tt tt
+capi_q_neg_not_idle = never _ (λ κs a x u p. ap wide p) ([], tt) (to_mut (eight 1), tt) tt tt
 
 pub capi_q_abs_not_idle : Never capi_q_abs_fixes (λ κs a r u. wide u.0) (λ κs a. wide a.0.now)
 unfolding everything sign_off
-capi_q_abs_not_idle = never _ (λ κs a x u p. ap wide p) ([], tt) (to (eight (2 ^ 512 - 1)), tt) tt tt
+capi_q_abs_not_idle = never _ (λ κs a x u p. ap wide p) ([], tt) (to_mut (eight (2 ^ 512 - 1)), tt) tt tt
 
 pub capi_q_abs_not_neg : Never capi_q_abs_fixes (λ κs a r u. wide u.0) (λ κs a. wide (words 512 (negated (from_words 512 a.0.now))))
 unfolding everything sign_off
-capi_q_abs_not_neg = never _ (λ κs a x u p. ap wide p) ([], tt) (to (eight 1), tt) tt tt
+capi_q_abs_not_neg = never _ (λ κs a x u p. ap wide p) ([], tt) (to_mut (eight 1), tt) tt tt
 
 pub capi_q_add_q_not_sub : Never capi_q_add_q_fixes (λ κs a r u. wide u.0) (λ κs a. wide (words 512 (minus 512 (from_words 512 a.0.now) (from_words 512 a.1.0.now))))
 unfolding everything
-capi_q_add_q_not_sub = never _ (λ κs a x u p. ap wide p) ([], ([], tt)) (to (eight 0), (to (eight 1), tt)) tt tt
+capi_q_add_q_not_sub = never _ (λ κs a x u p. ap wide p) ([], ([], tt)) (to_mut (eight 0), (to (eight 1), tt)) tt tt
 
 pub capi_q_sub_q_not_add : Never capi_q_sub_q_fixes (λ κs a r u. wide u.0) (λ κs a. wide (words 512 (plus 512 (from_words 512 a.0.now) (from_words 512 a.1.0.now))))
 unfolding everything
-capi_q_sub_q_not_add = never _ (λ κs a x u p. ap wide p) ([], ([], tt)) (to (eight 0), (to (eight 1), tt)) tt tt
+capi_q_sub_q_not_add = never _ (λ κs a x u p. ap wide p) ([], ([], tt)) (to_mut (eight 0), (to (eight 1), tt)) tt tt
 
 -- the range forgotten: the largest total, joined with itself, would be -2
 pub capi_q_add_q_not_wrapped : Never capi_q_add_q_fixes (λ κs a r u. wide u.0) (λ κs a. (wide a.0.now + wide a.1.0.now) % 2 ^ 512)
 unfolding everything
-capi_q_add_q_not_wrapped = never _ (λ κs a x u p. ap wide p) ([], ([], tt)) (to (eight (2 ^ 511 - 1)), (to (eight (2 ^ 511 - 1)), tt)) tt tt
+capi_q_add_q_not_wrapped = never _ (λ κs a x u p. ap wide p) ([], ([], tt)) (to_mut (eight (2 ^ 511 - 1)), (to (eight (2 ^ 511 - 1)), tt)) tt tt
 
 pub capi_q_to_posit_not_opposite : Never capi_q_to_posit_fixes (λ κs a r u. r) (λ κs a. to_posit 2 31 (negated (from_words 512 a.0.now)))
 unfolding everything
@@ -190,15 +190,15 @@ capi_q_is_nar_not_is_zero = never _ (λ κs a x u p. ap bool_byte p) ([], tt) (t
 -- ---- claims
 pub capi_write_image_not_idle : Never capi_write_image_fixes (λ κs a r u. number 256 u.1.0) (λ κs a. number 256 a.1.0.now)
 unfolding everything
-capi_write_image_not_idle = never _ (λ κs a x u p. ap (number 256) p.1) ([], ([], tt)) (to (eight 0), (to (bytes 1), tt)) tt tt
+capi_write_image_not_idle = never _ (λ κs a x u p. ap (number 256) p.1) ([], ([], tt)) (to (eight 0), (to_mut (bytes 1), tt)) tt tt
 
 pub capi_read_image_not_idle : Never capi_read_image_fixes (λ κs a r u. wide u.0) (λ κs a. wide a.0.now)
 unfolding everything
-capi_read_image_not_idle = never _ (λ κs a x u p. ap wide p.1) ([], ([], tt)) (to (eight 0), (to (bytes 1), tt)) tt tt
+capi_read_image_not_idle = never _ (λ κs a x u p. ap wide p.1) ([], ([], tt)) (to_mut (eight 0), (to (bytes 1), tt)) tt tt
 
 pub capi_add_batch_not_first_only : Never capi_add_batch_fixes (λ κs a r u. wide u.0) (λ κs a. wide (words 512 (after_batch 2 31 512 (from_words 512 a.0.now) (take 1 a.1.0.now) (take 1 a.1.1.0.now))))
 unfolding everything
-capi_add_batch_not_first_only = never _ (λ κs a x u p. ap wide p.1) ([], ([], ([], tt))) (to (eight 0), (to (1 ∷ 1 ∷ []), (to (1 ∷ 1 ∷ []), tt))) tt tt
+capi_add_batch_not_first_only = never _ (λ κs a x u p. ap wide p.1) ([], ([], ([], tt))) (to_mut (eight 0), (to (1 ∷ 1 ∷ []), (to (1 ∷ 1 ∷ []), tt))) tt tt
 
 pub capi_check_claim_not_lax : NotAlways capi_check_claim_fixes (λ κs a r u. r) (λ κs a. length a.1.1.0.now ≡ 64) (λ κs a. 0)
 unfolding everything

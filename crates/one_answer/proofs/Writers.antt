@@ -11,10 +11,11 @@ use Rattle.posit.specs.Digits.{InBase}
 use Rattle.posit.specs.Accumulator.{clear}
 use Rattle.posit.proofs.Computing.{everything}
 use Rattle.desk.specs.declared.image.WriteAnswer.TheVariants.{Written}
+use Rattle.desk.specs.contracts.image.write_image as of_write
 use Rattle.desk.proofs.image.write_image as write
 use Rattle.desk.proofs.Refused.{buffer_wide}
 use Rattle.promises.specs.History.{History, begun, ◌then◌, move, added, a_product, total_of, Keeps, Counting}
-use Rattle.promises.specs.Ways.{by_value, by_cleared, Place, at}
+use Rattle.promises.specs.Ways.{by_value, by_cleared, Place, at_mut}
 use Rattle.promises.specs.Run.{Wide, Routes, Runs, Image, made, written_into}
 use Rattle.promises.proofs.Reach.{unit_numbers}
 use Rattle.promises.proofs.Demand3.{images_equal_exactly, every_history_runs, short_history_stays}
@@ -25,17 +26,17 @@ use Rattle.one_answer.proofs.Desk.{desk_write_image_fixes}
 
 -- ---- one that meets the contract
 
-image_left : (e : WriteEngine) → Meets write.ended write.Reads.Pre write.Reads.Post e → (h : History) (by : Routes h) (z b : List ℕ) (κs : Lfts 1) (m : Place)
+image_left : (e : WriteEngine) → Meets of_write.ended write.Reads.Pre write.Reads.Post e → (h : History) (by : Routes h) (z b : List ℕ) (κs : Lfts 1) (m : Place)
     → Runs h by z → Wide b → Image h (take 64 (leaves e κs m z b))
 image_left e meets h by z b κs m runs wide = record {
   routes = by;
   end = z;
   runs = runs;
   writer = written_into by_value b wide;
-  shows = (leaves e κs m z b, (κs, m, (e κs (z, (at m b, tt))).0, meets κs (z, (at m b, tt)) tt, (meets κs (z, (at m b, tt)) tt).0 ∙ (buffer_wide clear b wide.0).0), refl);
+  shows = (leaves e κs m z b, (κs, m, (e κs (z, (at_mut m b, tt))).0, meets κs (z, (at_mut m b, tt)) tt, (meets κs (z, (at_mut m b, tt)) tt).0 ∙ (buffer_wide clear b wide.0).0), refl);
 }
 
-writer_tells_totals : (e : WriteEngine) → Meets write.ended write.Reads.Pre write.Reads.Post e → TellsTotals e
+writer_tells_totals : (e : WriteEngine) → Meets of_write.ended write.Reads.Pre write.Reads.Post e → TellsTotals e
 writer_tells_totals e meets h i k l y z b κs m keeps-h keeps-i runs-h runs-i wide =
     images_equal_exactly h i _ _ keeps-h keeps-i (image_left e meets h k y b κs m runs-h wide) (image_left e meets i l z b κs m runs-i wide)
 

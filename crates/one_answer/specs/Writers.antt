@@ -3,7 +3,7 @@ use Rattle.std.specs.Prelude.{◌≡◌, ◌↔◌, List, ℕ, take}
 use contract.Lifetimes.{Lfts}
 use Rattle.desk.specs.contracts.image.write_image as write
 use Rattle.promises.specs.History.{History, total_of, Keeps}
-use Rattle.promises.specs.Ways.{Place, at}
+use Rattle.promises.specs.Ways.{Place, at_mut}
 use Rattle.promises.specs.Run.{Wide, Routes, Runs}
 use Rattle.one_answer.specs.Engines.{Engine}
 
@@ -12,7 +12,7 @@ WriteEngine = Engine write.ended
 
 -- what it leaves in the buffer b, in which it was to write the image of the words q
 abbrev pub leaves : WriteEngine → Lfts 1 → Place → List ℕ → List ℕ → List ℕ
-leaves e κs m q b = (e κs (q, (at m b, tt))).1.1.0
+leaves e κs m q b = (e κs (q, (at_mut m b, tt))).1.1.0
 
 -- of the words of two histories that keep the premises, each to be written to a buffer that is the same at entry, the first 64 bytes left are equal exactly when the totals are
 abbrev pub TellsTotals : WriteEngine → Type 0
