@@ -37,8 +37,8 @@ image_left e meets h by z b κs m runs wide = record {
 }
 
 writer_tells_totals : (e : WriteEngine) → Meets of_write.ended write.Reads.Pre write.Reads.Post e → TellsTotals e
-writer_tells_totals e meets h i k l y z b κs m keeps-h keeps-i runs-h runs-i wide =
-    images_equal_exactly h i _ _ keeps-h keeps-i (image_left e meets h k y b κs m runs-h wide) (image_left e meets i l z b κs m runs-i wide)
+writer_tells_totals e meets h i k l y z b κs m keeps_h keeps_i runs_h runs_i wide =
+    images_equal_exactly h i _ _ keeps_h keeps_i (image_left e meets h k y b κs m runs_h wide) (image_left e meets i l z b κs m runs_i wide)
 
 -- ---- one that writes nothing
 

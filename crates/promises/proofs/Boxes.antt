@@ -64,10 +64,10 @@ pub sums_alike :
     → ReadOf first bs q → ReadOf second cs p → Moved way added (an_accumulator p) q r → ImageOf w r ds
     → ReadOf first' cs p' → ReadOf second' bs q' → Moved way' added (an_accumulator q') p' r' → ImageOf w' r' es
     → ds ≡ es
-sums_alike bs cs ds es q p r q' p' r' first second way first' second' way' w w' b c read-b read-c moved shows read-c' read-b' moved' shows' =
-    sum_shown bs cs ds q p r first second way w b c read-b read-c moved shows
+sums_alike bs cs ds es q p r q' p' r' first second way first' second' way' w w' b c read_b read_c moved shows read_c' read_b' moved' shows' =
+    sum_shown bs cs ds q p r first second way w b c read_b read_c moved shows
     ∙ ap (image 512) (plus_commutes (from_image 512 bs) (from_image 512 cs))
-    ∙ sym (sum_shown cs bs es p' q' r' first' second' way' w' c b read-c' read-b' moved' shows')
+    ∙ sym (sum_shown cs bs es p' q' r' first' second' way' w' c b read_c' read_b' moved' shows')
 
 -- ---- turns
 
