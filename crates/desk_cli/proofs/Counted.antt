@@ -5,7 +5,7 @@ use Prim.Native.Nat.{ℕ, ◌≤◌}
 use native.Mathlib.Omega.{arith}
 use lib.ListN.{length}
 use lib.Seq.{length-take-le}
-use Rattle.io.specs.Counts.{IsPrefixLen}
+use Rattle.desk_cli.specs.Counts.{IsPrefixLen}
 
 pub counted : (xs : List ℕ) (n k : ℕ) → n ≤ k → length xs ≡ k → IsPrefixLen n xs
 counted xs n k h e = let l : n ≤ length xs = omega arith in (l, sym (length-take-le _ _ l))

@@ -1,6 +1,6 @@
 // The lines of the input: where each ends, the pairs, and the claim's line.
 ghost use Rattle.std.specs.Prelude.{◌≡◌, ◌+◌, ◌≤◌, min, length};
-ghost use Rattle.io.specs.Counts.{IsPrefixLen};
+ghost use Rattle.desk_cli.specs.Counts.{IsPrefixLen};
 
 use super::hex;
 use super::hex::{Byte, Pattern};
@@ -44,7 +44,12 @@ pub(crate) fn line_end(text: &[u8], at: usize) -> usize
     ensures lower_bound { at ≤ result }
     ensures upper_bound { result ≤ length text.now }
 {
-    bytes::scan::find(text, at, text.len(), 10)
+    for end in at..text.len() {
+        if text[end] == b'\n' {
+            return end;
+        }
+    }
+    text.len()
 }
 
 // Where the line after one that ends at `end` begins.

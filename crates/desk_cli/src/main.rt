@@ -13,11 +13,13 @@
 #![tactic(auto)]
 
 ghost use Rattle.std.specs.Prelude.{◌≤◌, length};
-ghost use Rattle.io.specs.Counts.{IsPrefixLen};
+ghost use Rattle.desk_cli.specs.Counts.{IsPrefixLen};
 
 use desk::batch::add_batch;
 use desk::claim::check_claim;
 use desk::image::image_of;
+use std::io;
+use std::io::Read;
 
 mod hex; // hex.rt: digits, patterns of eight, bytes of two
 mod lines; // lines.rt: lines, pairs, the claim's line
@@ -33,34 +35,40 @@ struct TextRead {
     failed: bool,
 }
 
-fn main() {
+fn main(rt: HostRuntime) -> io::Result<()> {
     let mut text = [0u8; TEXT_ROOM];
-    let read = read_text(&mut text);
+    let read = read_text(&mut rt.reader(), &mut text);
     let n = read.count;
     if read.failed {
-        words::say(b"the input could not be read to its end");
+        words::say(&rt, b"the input could not be read to its end")
     } else if n == TEXT_ROOM {
-        words::say(b"the input is longer than 400000 bytes");
+        words::say(&rt, b"the input is longer than 400000 bytes")
     } else {
-        answer(&text[..n]);
+        answer(&rt, &text[..n])
     }
 }
 
-// Reads until the input ends, a read fails or the room is full. `io::read_full` does not tell an end from a failure, after which a batch would be cut short.
-fn read_text(text: &mut [u8]) -> TextRead
+// Reads until the input ends, a read fails or the room is full. An end and a failure are told apart: after a failure a batch would be cut short.
+fn read_text(input: &mut impl Read, text: &mut [u8]) -> TextRead
     ensures { IsPrefixLen result.count text.new }
 {
     let mut count: usize = 0;
     while count < text.len() {
-        let got = libc::read(0, &mut text[count..]);
-        let more = io::count(got, &text[count..]);
-        if more == 0 {
-            return TextRead {
-                count,
-                failed: got < 0,
-            };
+        match input.read(&mut text[count..]) {
+            Ok(0) => {
+                return TextRead {
+                    count,
+                    failed: false,
+                };
+            }
+            Ok(more) => count += more,
+            Err(_) => {
+                return TextRead {
+                    count,
+                    failed: true,
+                };
+            }
         }
-        count += more;
     }
     TextRead {
         count,
@@ -68,20 +76,20 @@ fn read_text(text: &mut [u8]) -> TextRead
     }
 }
 
-fn answer(text: &[u8]) {
+fn answer(rt: &impl Print, text: &[u8]) -> io::Result<()> {
     let end = lines::line_end(text, 0);
     let start = lines::line_after(text, end);
     if check::same(&text[0..end], b"claim") {
-        answer_claim(text, start);
+        answer_claim(rt, text, start)
     } else if check::same(&text[0..end], b"image") {
-        answer_image(text, start);
+        answer_image(rt, text, start)
     } else {
-        words::say_of_line(1, b"neither the word claim nor the word image");
+        words::say_of_line(rt, 1, b"neither the word claim nor the word image")
     }
 }
 
 // The pairs from `start` on, and their image.
-fn answer_image(text: &[u8], start: usize)
+fn answer_image(rt: &impl Print, text: &[u8], start: usize) -> io::Result<()>
     requires { start ≤ length text.now }
 {
     let mut a = [0u32; lines::PAIR_ROOM];
@@ -89,28 +97,26 @@ fn answer_image(text: &[u8], start: usize)
     let read = lines::read_pairs(text, start, &mut a, &mut b);
     let n = read.count;
     if read.at < text.len() {
-        words::say_of_line(n + 2, b"not a pair of patterns");
-        return;
+        return words::say_of_line(rt, n + 2, b"not a pair of patterns");
     }
-    say_image(&a[..n], &b[..n]);
+    say_image(rt, &a[..n], &b[..n])
 }
 
 // The image of a batch that is added from zero.
-fn say_image(a: &[u32], b: &[u32]) {
+fn say_image(rt: &impl Print, a: &[u32], b: &[u32]) -> io::Result<()> {
     let added = add_batch([0; 8], a, b);
     let answer = added.answer;
     let number = answer.number();
     if number != 0 {
-        words::say_number(number);
-        return;
+        return words::say_number(rt, number);
     }
     let total = added.words;
     let digits = hex::spelt(image_of(total));
-    words::say(&digits);
+    words::say(rt, &digits)
 }
 
 // The pairs from `start` on, then the claim.
-fn answer_claim(text: &[u8], start: usize)
+fn answer_claim(rt: &impl Print, text: &[u8], start: usize) -> io::Result<()>
     requires { start ≤ length text.now }
 {
     let mut a = [0u32; lines::PAIR_ROOM];
@@ -119,14 +125,13 @@ fn answer_claim(text: &[u8], start: usize)
     let n = read.count;
     let at = read.at;
     if at == text.len() {
-        words::say_of_line(n + 2, b"no claim");
-        return;
+        return words::say_of_line(rt, n + 2, b"no claim");
     }
-    judge(text, at, &a[..n], &b[..n]);
+    judge(rt, text, at, &a[..n], &b[..n])
 }
 
 // The claim in the line at `at`, against the pairs before it.
-fn judge(text: &[u8], at: usize, a: &[u32], b: &[u32])
+fn judge(rt: &impl Print, text: &[u8], at: usize, a: &[u32], b: &[u32]) -> io::Result<()>
     requires at_in_bounds { at ≤ length text.now }
     requires a_len_bound { length a.now ≤ 22300 }
 {
@@ -136,10 +141,10 @@ fn judge(text: &[u8], at: usize, a: &[u32], b: &[u32])
     let k = got.count;
     let fault = got.fault;
     if fault != lines::NO_FAULT {
-        words::say_fault(a.len() + 2, fault);
+        words::say_fault(rt, a.len() + 2, fault)
     } else if lines::line_after(text, end) < text.len() {
-        words::say_of_line(a.len() + 3, b"text after the claim");
+        words::say_of_line(rt, a.len() + 3, b"text after the claim")
     } else {
-        words::say_number(check_claim(a, b, &claim[..k]).number());
+        words::say_number(rt, check_claim(a, b, &claim[..k]).number())
     }
 }

@@ -2,12 +2,14 @@
 // model (tools/replay_vectors.py). A line is printed for each operation: how many were run, and how many answered something else.
 #![tactic(auto)]
 
-ghost use Rattle.std.specs.Prelude.{◌≤◌};
+ghost use Rattle.std.specs.Prelude.{◌≤◌, IfOk, length};
 
 use desk::image::{image_of, read_image};
 use p32e2::P32E2;
 use quire_steps::{add_posit, add_product, neg, qAbs, qAddQ, qSubQ, sub_posit, sub_product};
 use quire_totals::to_posit;
+use std::io;
+use std::io::Read;
 
 // A record's bytes: an operation's number, two patterns, and then, for the posit's operations, a third pattern and the answer; for the accumulator's, an image.
 // Where whole accumulators are operands, two more images are behind that. Patterns are high byte first. `whole` is false where the input has ended.
@@ -24,50 +26,45 @@ struct Tally {
     wrong: [u64; 20],
 }
 
-fn main() {
-    let t = replayed();
+fn main(rt: HostRuntime) -> io::Result<()> {
+    let t = replayed(&mut rt.reader())?;
     let run = t.run;
     let wrong = t.wrong;
-    line(b"posit neg", run[0], wrong[0]);
-    line(b"posit add", run[1], wrong[1]);
-    line(b"posit sub", run[2], wrong[2]);
-    line(b"posit mul", run[3], wrong[3]);
-    line(b"posit div", run[4], wrong[4]);
-    line(b"posit recip", run[5], wrong[5]);
-    line(b"posit sqrt", run[6], wrong[6]);
-    line(b"posit mul_add", run[7], wrong[7]);
-    line(b"posit mul_sub", run[8], wrong[8]);
-    line(b"posit sub_product", run[9], wrong[9]);
-    line(b"quire add_product", run[10], wrong[10]);
-    line(b"quire sub_product", run[11], wrong[11]);
-    line(b"quire add_posit", run[12], wrong[12]);
-    line(b"quire sub_posit", run[13], wrong[13]);
-    line(b"quire neg", run[14], wrong[14]);
-    line(b"quire to_posit", run[15], wrong[15]);
-    line(b"quire qAddQ", run[16], wrong[16]);
-    line(b"quire qSubQ", run[17], wrong[17]);
-    line(b"quire qAbs", run[18], wrong[18]);
-    line(b"unknown", run[19], wrong[19]);
+    line(&rt, "posit neg", run[0], wrong[0])?;
+    line(&rt, "posit add", run[1], wrong[1])?;
+    line(&rt, "posit sub", run[2], wrong[2])?;
+    line(&rt, "posit mul", run[3], wrong[3])?;
+    line(&rt, "posit div", run[4], wrong[4])?;
+    line(&rt, "posit recip", run[5], wrong[5])?;
+    line(&rt, "posit sqrt", run[6], wrong[6])?;
+    line(&rt, "posit mul_add", run[7], wrong[7])?;
+    line(&rt, "posit mul_sub", run[8], wrong[8])?;
+    line(&rt, "posit sub_product", run[9], wrong[9])?;
+    line(&rt, "quire add_product", run[10], wrong[10])?;
+    line(&rt, "quire sub_product", run[11], wrong[11])?;
+    line(&rt, "quire add_posit", run[12], wrong[12])?;
+    line(&rt, "quire sub_posit", run[13], wrong[13])?;
+    line(&rt, "quire neg", run[14], wrong[14])?;
+    line(&rt, "quire to_posit", run[15], wrong[15])?;
+    line(&rt, "quire qAddQ", run[16], wrong[16])?;
+    line(&rt, "quire qSubQ", run[17], wrong[17])?;
+    line(&rt, "quire qAbs", run[18], wrong[18])?;
+    line(&rt, "unknown", run[19], wrong[19])
 }
 
-fn line(name: &[u8], run: u64, wrong: u64) {
-    io::write_all(1, name);
-    io::write_all(1, b" ");
-    io::print_decimal(1, run);
-    io::write_all(1, b" run ");
-    io::print_decimal(1, wrong);
-    io::write_all(1, b" wrong\n");
+fn line(rt: &impl Print, name: &str, run: u64, wrong: u64) -> io::Result<()> {
+    println!(rt; "{name} {run} run {wrong} wrong")
 }
 
 // Every record to the end of the input, of which a million are read at most.
-fn replayed() -> Tally {
+fn replayed(input: &mut impl Read) -> io::Result<Tally> {
     let mut run = [0u64; 20];
     let mut wrong = [0u64; 20];
     let mut before = [0u8; 201];
     let mut left: u64 = 1_000_000;
     while 0 < left {
         left -= 1;
-        let r = next();
+        let r = next(input)?;
         if !r.whole {
             left = 0;
         } else {
@@ -79,7 +76,7 @@ fn replayed() -> Tally {
             before = bytes;
         }
     }
-    Tally { run, wrong }
+    Ok(Tally { run, wrong })
 }
 
 // An operation's place in the tally.
@@ -142,15 +139,30 @@ fn state_of(image: &[u8]) -> [u64; 8] {
     read_image([0; 8], image).words
 }
 
-fn next() -> Record {
+fn next(input: &mut impl Read) -> io::Result<Record> {
     let mut bytes = [0u8; 201];
-    let n = io::read_full(0, &mut bytes[..9]);
+    let n = read_full(input, &mut bytes[..9])?;
     let size = size_of(bytes[0]);
-    let m = io::read_full(0, &mut bytes[9..size]);
-    Record {
+    let m = read_full(input, &mut bytes[9..size])?;
+    Ok(Record {
         whole: n + m == size,
         bytes,
+    })
+}
+
+// Reads until the buffer is full or the input ends, and answers how many bytes it put at the start of the buffer.
+fn read_full(input: &mut impl Read, buffer: &mut [u8]) -> io::Result<usize>
+    ensures { IfOk result (λ n. n ≤ length buffer.new) }
+{
+    let mut done: usize = 0;
+    while done < buffer.len() {
+        let n = input.read(&mut buffer[done..])?;
+        if n == 0 {
+            break;
+        }
+        done += n;
     }
+    Ok(done)
 }
 
 // How long a record is.
