@@ -18,6 +18,7 @@ function begin_file(    part) {
     split("", imported)
     split("", inner)
     split("", modules)
+    split("", paths)
     split("", begins)
     split("", strange)
     split("", occurs)
@@ -32,6 +33,7 @@ function end_file(    i, first) {
         judge_open(told[i], told_at[i])
         judge_binders(told[i], told_at[i])
         judge_paths(told[i], told_at[i])
+        if (folder == "src") judge_code(told[i], told_at[i])
         body["public"] = body["public"] keys(told[i])
     }
     if (folder == "specs") for (i = 1; i <= names; i++) if (!used(name_of[i], is_module[i])) fault(name_at[i] ": " name_of[i] " is brought and not used")
@@ -41,11 +43,10 @@ function end_file(    i, first) {
 
 # Is it of a file of proofs/, and not a module that the check makes of the code? A path there is generated exactly when no file along it is written by hand.
 function by_hand(path,    owner, below, n, i, step) {
-    sub(/^(package[.])?Rattle·/, "", path)
+    sub(/^(package[.])?Rattle[.]/, "", path)
     if (path !~ /^[^.]+[.]proofs([.]|$)/) return 0
     owner = path
     sub(/[.].*$/, "", owner)
-    sub(/·proofs$/, "", owner)
     below = path
     sub(/^[^.]+[.]proofs[.]?/, "", below)
     n = split(below, step, ".")
@@ -69,9 +70,9 @@ function bring(text, place,    i, first, owner, specs) {
     sub(/[.].*$/, "", first)
     begins[first] = place ": `" text "`"
     owner = specs = used_path
-    sub(/^Rattle·/, "", owner)
-    sub(/[·.].*$/, "", owner)
-    sub(/^.*specs[.]/, "", specs)
+    sub(/^(package[.])?Rattle[.]/, "", owner)
+    sub(/[.].*$/, "", owner)
+    sub(/^.*[.]specs[.]/, "", specs)
     for (i = 1; i <= items; i++) {
         name_of[++names] = known[i]
         name_at[names] = place
@@ -79,9 +80,9 @@ function bring(text, place,    i, first, owner, specs) {
         if (folder == "specs" && by_hand(full[i])) fault(FILENAME " imports " full[i])
         if (folder == "promise" && item[i] != "" && item[i] != known[i]) strange[place] = place ": " item[i] " as " known[i]
         note(modules, known[i], full[i])
-        if (item[i] == "") continue
+        if (item[i] == "") { note(paths, known[i], full[i]); continue }
         if (by_hand(full[i])) note(inner, known[i], full[i])
-        else if (used_path ~ /^Rattle·.*specs[.]/ && used_path !~ /declared/) note(imported, known[i], owner "/" specs "/" item[i])
+        else if (used_path ~ /^(package[.])?Rattle[.][^.]+[.]specs[.]/ && used_path !~ /[.]specs[.](declared|contracts)[.]/) note(imported, known[i], owner "/" specs "/" item[i])
     }
 }
 
@@ -114,7 +115,7 @@ function judge_paths(text, place,    n, i, m, j, word, step, below) {
         m = split(word[i], step, ".")
         for (j = 1; j <= m; j++) {
             below = substr(below, length(step[j]) + 1)
-            if (step[j] ~ /^(package$|Rattle·)/) fault(place ": " word[i] " is a whole path: bring it by `use`")
+            if (step[j] ~ /^(package|Rattle)$/) fault(place ": " word[i] " is a whole path: bring it by `use`")
             judge_step(step[j], below, place)
             sub(/^[.]/, "", below)
         }
@@ -128,8 +129,8 @@ function judge_step(step, below, place,    n, i, m, j, spelling, meaning) {
             m = split(inner[spelling[i]], meaning, " ")
             for (j = 1; j <= m; j++) suspect[place ": a public statement is told by " spelling[i] ", which is " meaning[j]] = meaning[j]
         }
-        if (below != "" && spelling[i] in modules) {
-            m = split(modules[spelling[i]], meaning, " ")
+        if (below != "" && spelling[i] in paths) {
+            m = split(paths[spelling[i]], meaning, " ")
             for (j = 1; j <= m; j++) if (by_hand(meaning[j] below)) fault(place ": " step below " is of a file of proofs/")
         }
     }
@@ -141,15 +142,39 @@ function judge_open(text, place,    n, i, word) {
     for (i = 1; i <= n; i++) if (word[i] ~ /^(_|let|where|do|elim|unfold)$|⟦|⟧/) fault(place ": `" word[i] "` in a public statement is not read here")
 }
 
-# a name that a file brings means the same in all its public statements: none binds it, as `(x y : A)` and `λ x y.` bind x and y
-function judge_binders(text, place,    n, i, bound, word) {
-    while (match(text, /[({][^(){}:]+ : |λ [^.:(){}]+/)) {
-        bound = substr(text, RSTART, RLENGTH)
-        text = substr(text, RSTART + RLENGTH)
-        gsub(/[:.]/, " ", bound)
-        n = words_of(bound, word)
-        for (i = 1; i <= n; i++) if (word[i] in modules) fault(place ": a public statement binds " word[i] ", which its file brings")
+# A clause may name a constant of the code with no `use`. What it says would then be told by the code. It is known at the end which names are such.
+function judge_code(text, place,    n, i, word) {
+    gsub(/[.]/, " ", text)
+    n = words_of(text, word)
+    for (i = 1; i <= n; i++) of_code[place ": a public contract is told by the constant " word[i]] = word[i]
+}
+
+# A name that a file brings means the same in all its public statements: none binds it, as `(x y : A)` and `λ x y (z : A).` bind x, y and z, and `λ (x, y).` does.
+function judge_binders(text, place,    rest) {
+    for (rest = text; match(rest, /[({][^(){}:]+ : /); rest = substr(rest, RSTART + RLENGTH)) judge_bound(substr(rest, RSTART, RLENGTH), place)
+    for (rest = text; match(rest, /λ[ ({]/);) {
+        rest = substr(rest, RSTART + length("λ"))
+        judge_bound(before_dot(rest), place)
     }
+}
+
+function judge_bound(bound, place,    n, i, word) {
+    sub(/ : $/, "", bound)
+    n = words_of(bound, word)
+    for (i = 1; i <= n; i++) if (word[i] in modules) fault(place ": a public statement binds " word[i] ", which its file brings")
+}
+
+# what stands before the dot that ends the binders of a λ, without the types
+function before_dot(text,    i, letter, depth, typed, bound) {
+    for (i = 1; i <= length(text); i++) {
+        letter = substr(text, i, 1)
+        depth += (letter ~ /[({]/) - (letter ~ /[)}]/)
+        if (letter == "." && !depth) break
+        if (typed > depth) typed = 0
+        if (!typed && substr(text, i, 3) == " : ") typed = depth
+        if (!typed) bound = bound letter
+    }
+    return bound
 }
 
 function tell(text, place) {
@@ -161,6 +186,7 @@ function tell(text, place) {
 function import_read(text) { bring(text, FILENAME ":" FNR) }
 function head_read() { if (public || program && visible == "crate") tell(clauses, at) }
 function body_read() {}
+function item_read() { if (kind == "const") constant[name] = 1 }
 
 function beginning(text,    n, i, word, out) {
     n = split(text, word, " ")
@@ -173,10 +199,10 @@ function declaration_read(text,    form, path) {
     form = form_of(text)
     if (form == "use") bring(text, declared_at)
     if (form == "") strange[declared_at] = declared_at ": `" beginning(text) "`"
-    if (form == "signature") note(inner, declared_name, path = "Rattle·" crate "·proofs.proofs." file "." declared_name)
+    if (form == "signature") note(inner, declared_name, path = "Rattle." crate ".proofs." file "." declared_name)
     if (form == "use" || !parse_statement(text)) return
     if (crate == "one_answer" && statement !~ "^(" one_answer "|" wrong_engine ") ") return
-    if (crate == "one_answer" && statement ~ "^(" one_answer ") " && theorem ~ /-fixes$/) of_one_answer[path] = 1
+    if (crate == "one_answer" && statement ~ "^(" one_answer ") " && theorem ~ /_fixes$/) of_one_answer[path] = 1
     sub(/^(unfoldable )?(abbrev )?pub [^ ]+ /, "", text)
     tell(text, declared_at)
 }
@@ -263,6 +289,7 @@ END {
     end_code()
     end_file()
     for (text in suspect) if (!(suspect[text] in of_one_answer)) fault(text)
+    for (text in of_code) if (of_code[text] in constant) fault(text)
     reach()
     exit (faults > 0)
 }

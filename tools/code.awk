@@ -4,15 +4,18 @@
 #     head_read()         a function with its clauses; below are the names of what is known of it
 #     body_read()         the same function, now with its code
 #     import_read(text)   a `ghost use`, as text
-# Whatever is not known here is a fault by file and line, so that nothing is passed over: an attribute but `no_mangle` and `export_name`, a function
-# inside a function or inside `mod x { .. }`, an `impl` that is more than one type's name, a raw string, a `pub use` of anything but a type, and so on.
+#     item_read()         any other item but a `mod`, whose file is read: `kind` is its word, as `use` or `struct`
+# Whatever is not known here is a fault by file and line, so that nothing is passed over: an attribute but `no_mangle`, `export_name`, `tactic` and `derive`
+# of the language's own traits, a function inside a function or inside `mod x { .. }`, an `impl` that is more than one type's name, a clause with a star, a
+# raw string, a `pub use` of anything but a type, and so on.
 #     crate, module, type    where the function stands; module is "" in lib and main, type is "" outside `impl`
 #     name, at               its name, and its file and line
 #     visible                "pub", "crate" or "own"
-#     exported               1 where it carries `no_mangle` or `export_name`, or is `extern "C"`
+#     exported               1 where it carries `no_mangle` or `export_name`, or is `extern "C"`; for_linkers is 1 where it is `pub`, and both `no_mangle` and `extern "C"`
 #     public                 1 where it is `pub`, or exported
 #     asks, ensures          1 where it has a `requires` or a `ghost` clause, and where it has an `ensures`
 #     clauses, code          the text of its clauses, and the tokens of its body with a blank before and after each
+#     signature, stated      the tokens from its name to its result's type; its clauses once more, each with its word and its name
 # type_home["crate::Type"] is the module in which a type is declared.
 
 function unread(what) { fault(FILENAME ":" FNR ": " what " is not read here") }
@@ -31,7 +34,7 @@ function begin_code(    part) {
 # between two files: nothing may be open
 function end_code() {
     if (words || comment || inside != "" || type != "" || antt_ends != "") fault(code_file " ends inside something that began there")
-    words = nested = comment = 0
+    words = nested = comment = attribute_open = 0
     inside = type = antt_ends = ""
 }
 
@@ -47,11 +50,16 @@ function read_code(    token) {
     if (antt_ends != "") antt = antt " "
 }
 
-# the next token of the line; "" where white space or a comment was taken off
+# the next token of the line; "" where white space or a comment was taken off. Between the brackets of an attribute a tactic may be given names of antt.
 function next_token(    token) {
     if (match(rest, /^[ \t]+/)) { rest = substr(rest, RLENGTH + 1); return "" }
     if (rest ~ /^\/\//) { rest = ""; return "" }
     if (rest ~ /^\/\*/) { skip_comment(); return "" }
+    if (attribute_open && match(rest, /^[A-Za-z_\200-\377][A-Za-z0-9_'\200-\377]*/)) {
+        token = substr(rest, 1, RLENGTH)
+        rest = substr(rest, RLENGTH + 1)
+        return token
+    }
     if (rest ~ /^[bc]?r#*"/ || !(match(rest, /^[bc]?"([^"\\]|\\.)*"/) || match(rest, /^b?'([^'\\]|\\.[^']*)'/) ||
             match(rest, /^'?[A-Za-z_][A-Za-z0-9_]*/) || match(rest, /^[0-9][A-Za-z0-9_]*/) || match(rest, /^[][(){}<>:;,.=&|*+%^!?#@\/-]/))) {
         unread("`" substr(rest, 1, 20) "`")
@@ -88,18 +96,27 @@ function begin_antt(ends, depth) {
     antt_depth = depth
 }
 
-function antt_read(    clause) {
+function antt_read(    i) {
     antt_ends = ""
     if (head[1] == "ghost") {
         words = 0
         import_read("use " antt)
         return
     }
-    clause = head[words - 1]
-    words -= 2
-    if (clause == "ensures") ensures = 1
+    if (head[clause_at] == "ensures") ensures = 1
     else asks = 1
     clauses = clauses " " substr(antt, 1, length(antt) - 1)
+    for (i = clause_at; i <= words; i++) stated = stated " " head[i]
+    stated = stated " " antt
+    gsub(/[ \t]+/, " ", stated)
+    words = clause_at - 1
+}
+
+# Where the head ends in a clause that opens here: the place of its word, and else 0. `requires {`, `requires room {`, and the same with `ensures`; `ghost n: {`.
+function clause_opens() {
+    if (head[words - 1] ~ /^(requires|ensures|ghost)$/) return words - 1
+    if (head[words - 2] ~ /^(requires|ensures)$/ && head[words - 1] ~ /^[a-z_]/) return words - 2
+    return head[words - 1] == ":" && head[words - 3] == "ghost" ? words - 3 : 0
 }
 
 function take(token) {
@@ -140,7 +157,12 @@ function take_in_head(token) {
     if (!words && token == "}" && type != "") { type = ""; return }
     if (!words) begin_head()
     head[++words] = token
-    if (token ~ /^[])]$/ || token == "}" && nested) nested--
+    if (token == "[" && !nested && (head[words - 1] == "#" || head[words - 2] == "#" && head[words - 1] == "!")) attribute_open = 1
+    if (token ~ /^[])]$/ || token == "}" && nested) {
+        nested--
+        if (!nested) attribute_open = 0
+        if (!nested && token == "]" && head[2] == "!") inner_attribute()
+    }
     else if (token ~ /^[[(]$/ || token == "{" && nested) nested++
     else if (nested) return
     else if (token == "{") head_opens()
@@ -150,21 +172,29 @@ function take_in_head(token) {
 
 function begin_head() {
     at = FILENAME ":" FNR
-    nested = asks = ensures = 0
+    nested = asks = ensures = attribute_open = 0
     split("", head)
-    clauses = ""
+    clauses = stated = signature = ""
     code = " "
 }
 
+# `#![..]`, which is an item of its own
+function inner_attribute(    i, attribute) {
+    for (i = 4; i < words; i++) attribute = attribute head[i]
+    if (head[1] != "#" || head[3] != "[" || attribute !~ /^tactic[(]/) unread("the attribute `" attribute "`")
+    words = 0
+}
+
 # what the head says up to the item's own word: attributes, who can see it, and how a function is called
-function parse_head(    i, attribute) {
-    exported = 0
+function parse_head(    i, attribute, no_mangle, as_c) {
+    exported = no_mangle = as_c = 0
     visible = "own"
     for (i = 1; head[i] == "#" && head[i + 1] == "["; i++) {
         attribute = ""
         for (i += 2; i < words && head[i] != "]"; i++) attribute = attribute head[i]
-        if (attribute == "no_mangle" || attribute ~ /^export_name=/) exported = 1
-        else unread("the attribute `" attribute "`")
+        if (attribute ~ /^(unsafe[(]no_mangle[)]|no_mangle)$/) exported = no_mangle = 1
+        else if (attribute ~ /^(unsafe[(])?export_name=/) exported = 1
+        else if (attribute !~ /^tactic[(]/ && attribute !~ /^derive[(]((Drop|Clone|Copy|PartialEq|Eq|Debug),?)+[)]$/) unread("the attribute `" attribute "`")
     }
     if (head[i] == "pub") visible = "pub"
     if (head[i] == "pub" && head[++i] == "(") {
@@ -173,8 +203,9 @@ function parse_head(    i, attribute) {
         i += 3
     }
     if (head[i] == "const" && head[i + 1] == "fn") i++
-    if (head[i] == "extern" && head[i + 1] == "\"C\"" && head[i + 2] == "fn") { exported = 1; i += 2 }
+    if (head[i] == "extern" && head[i + 1] == "\"C\"" && head[i + 2] == "fn") { exported = as_c = 1; i += 2 }
     public = exported || visible == "pub"
+    for_linkers = visible == "pub" && no_mangle && as_c
     kind = head[i]
     name = head[i + 1]
     after_name = i + 2
@@ -183,7 +214,8 @@ function parse_head(    i, attribute) {
 
 function head_opens() {
     parse_head()
-    if (kind == "fn" && head[words - 1] ~ /^(requires|ensures|ghost)$/) begin_antt("}", 1)
+    clause_at = clause_opens()
+    if (kind == "fn" && clause_at) begin_antt("}", 1)
     else if (kind == "fn") {
         judge_signature()
         head_read()
@@ -191,9 +223,11 @@ function head_opens() {
     } else if (kind == "use" || kind == "const" && head[after_name] == ":") nested++
     else if (kind == "struct" || kind == "enum") {
         declare()
+        item_read()
         open_block("fields")
     } else if (kind == "impl" && words == 3 && type == "") {
         type = name
+        item_read()
         words = 0
     } else {
         unread("`" head_text() "`")
@@ -206,6 +240,7 @@ function head_ends() {
     if (kind == "struct") declare()
     else if (kind == "use" && visible == "pub" && (head[words - 2] != ":" || head[words - 1] !~ /^[A-Z]/)) unread("`" head_text() "`, which may bring a function out,")
     else if (kind != "use" && !(kind == "mod" && head[after_name] == ";") && !(kind == "const" && head[after_name] == ":")) unread("`" head_text() "`")
+    if (kind != "mod") item_read()
     words = 0
 }
 
@@ -229,4 +264,5 @@ function judge_signature(    i, deep) {
     }
     if (i + 1 < words && !(head[i + 1] == "-" && head[i + 2] == ">")) unread("`" head[i + 1] "` after the parameters")
     for (i += 4; i < words; i++) if (head[i] ~ /^[A-Za-z_]/ && head[i - 1] ~ /^[A-Za-z_]/ && head[i - 1] != "mut") unread("`" head[i] "` after the result's type")
+    for (i = after_name - 1; i < words; i++) signature = signature head[i] " "
 }

@@ -10,7 +10,7 @@ BEGIN {
     one_answer = "Fixes|FixesTyped|FixesLent"
     wrong_engine = "NoConstant|NotAlways|Never|NotAsking|NotAskingLent|Excluded"
     of_no_answer = "NotAsking|NotAskingLent|Excluded"
-    no_name = "^(data|record|deriving|module|where|use|mod|pub|package|using|open|as|unfoldable|abbrev|axiom|unfold|unfolding|ruleset|mutual|infix|infixl|infixr|elim|let|in|do)$"
+    no_name = "^(pattern|data|record|deriving|module|where|use|mod|pub|package|using|open|as|unfoldable|abbrev|axiom|unfold|unfolding|ruleset|mutual|infix|infixl|infixr|elim|let|in|do)$"
 }
 
 # is the file there?
@@ -88,10 +88,10 @@ function words_of(text, word) {
     return split(text, word, / +/)
 }
 
-# the names by which a name can be written: whole, or by the parts of an operator. `Fixes_` would be written as `Fixes` is, and `_≡_` as `≡`.
+# the names by which a name can be written: whole, or by the parts of an operator. `Fixes◌` would be written as `Fixes` is, and `◌≡◌` as `≡`.
 function spellings(name, spelling,    n, i, part, count) {
     spelling[count = 1] = name
-    n = split(name, part, "_")
+    n = split(name, part, "◌")
     for (i = 1; n > 1 && i <= n; i++) if (part[i] != "") spelling[++count] = part[i]
     return count
 }

@@ -1,9 +1,21 @@
 # The judgements of tools/one-answer, over what tools/code.awk and tools/declarations.awk read.
 BEGIN {
     demand = "crates/promises/proofs/Demand1Callers.antt"
-    at_home(one_answer, "Rattle·one_answer·specs.specs.Fixes")
-    at_home(wrong_engine, "Rattle·one_answer·specs.specs.Engines")
-    at_home("Answers|AnswersLent", "Rattle·promises·specs.specs.Contract")
+    at_home(one_answer, "Rattle.one_answer.specs.Fixes")
+    at_home(wrong_engine, "Rattle.one_answer.specs.Engines")
+    at_home("Answers|AnswersLent", "Rattle.promises.specs.Contract")
+    read_crates()
+}
+
+# the crates that are proved, and which of them are static libraries
+function read_crates(    line, word) {
+    while ((getline line < "crates.txt") > 0) {
+        sub(/#.*$/, "", line)
+        sub(/:.*$/, "", line)
+        if (!split(line, word, " ")) continue
+        proved[word[1]] = 1
+        if (word[2] ~ /^(staticlib|wasm64)$/) static[word[1]] = 1
+    }
 }
 
 function at_home(words, file,    n, i, word) {
@@ -31,14 +43,21 @@ FILENAME ~ /[.]md$/ && /^\| `[a-z0-9_]+::[A-Za-z0-9_:]+` \|/ {
 # whatever else the page names: edits as `crate/edit`, and theorems of wrong engines
 FILENAME ~ /[.]md$/ {
     n = split($0, quoted, "`")
-    for (i = 2; i <= n; i += 2) if (quoted[i] ~ /^[a-z0-9_]+\/[a-z0-9_]+$|^[a-z0-9-]+-not-[a-z-]+$/ && quoted[i] !~ /^crates\//) named[quoted[i]] = 1
+    for (i = 2; i <= n; i += 2) if (quoted[i] ~ /^[a-z0-9_]+\/[a-z0-9_]+$|^[a-z0-9_]+_not_[a-z_]+$/ && quoted[i] !~ /^crates\//) named[quoted[i]] = 1
 }
 
 # ---- the functions
 
-function import_read(text) {}
+# what a file brings to its clauses, line for line
+function import_read(text) {
+    gsub(/[ \t]+/, " ", text)
+    brought[crate, module] = brought[crate, module] text "; "
+}
+
+function item_read() { if (crate in static) fault(at ": `" kind "` in a static library is not read here") }
 
 function head_read(    place) {
+    if (crate in static) { export_read(); return }
     if (!public) return
     place = type != "" ? type : module
     f = crate "::" (place == "" ? "" : place "::") name
@@ -48,11 +67,63 @@ function head_read(    place) {
     type_of[f] = type
     name_of[f] = name
     if (exported) for_c[f] = 1
+    signature_of[f] = signature
+    stated_of[f] = stated
     if (asks) fault(at ": " f " asks its caller for something: a public function has no `requires` and no `ghost`")
     if (!ensures) fault(at ": " f " has no `ensures`")
 }
 
-function body_read() { if (public) code_of[f] = code }
+function body_read() {
+    if (crate in static) exported_code[e] = code
+    else if (public) code_of[f] = code
+}
+
+# ---- the exports
+
+# a function of a static library NAME_c: what it says is judged at the end, when the library NAME has been read
+function export_read() {
+    e = crate "::" (module == "" ? "" : module "::") name
+    if (!for_linkers) fault(at ": " e " is not exported as a function for C: a static library has no other")
+    if (e in exports) fault(e " stands twice: their names have to differ")
+    exports[e] = at
+    exported_head[e] = signature
+    exported_clauses[e] = stated
+    exported_module[e] = module
+    exported_from[e] = crate
+}
+
+# the library that a static library is of; "" where it is of none
+function library_of(static_crate) {
+    return sub(/_c$/, "", static_crate) && (static_crate in proved) && !(static_crate in static) ? static_crate : ""
+}
+
+# the names of the parameters of a signature, with a comma between each two
+function parameters_of(signature,    n, i, token, depth, names) {
+    n = split(signature, token, " ")
+    for (i = 2; i <= n; i++) {
+        depth += (token[i] ~ /^[[(<]$/) - (token[i] ~ /^[])]$/ || token[i] == ">" && token[i - 1] != "-")
+        if (!depth) break
+        if (depth == 1 && token[i] == ":") names = names (names == "" ? "" : ", ") token[i - 1]
+    }
+    gsub(/,/, " ,", names)
+    return names
+}
+
+# an export has the name, the types and the clauses of a function of the library that is marked for C, and calls it with what it was given
+function judge_export(e,    library, path, f, given, names) {
+    library = library_of(exported_from[e])
+    if (library == "") { fault(exported_from[e] " is a static library, and of no library of crates.txt: its name would be that library's with _c behind it"); return }
+    path = substr(e, length(exported_from[e]) + 3)
+    f = library "::" path
+    if (!(f in for_c)) { fault(exports[e] ": " e " is exported, and " f " is no function that is marked for C"); return }
+    if (exported_head[e] != signature_of[f]) fault(exports[e] ": " e " takes or gives something else than " f)
+    if (exported_clauses[e] != stated_of[f]) fault(exports[e] ": the clauses of " e " are not, word for word, those of " f)
+    if (brought[exported_from[e], exported_module[e]] != brought[library, exported_module[e]]) fault(exports[e] ": the `ghost use` lines of the file are not those of the file of " f)
+    given = path
+    gsub(/::/, " : : ", given)
+    names = parameters_of(signature_of[f])
+    if (exported_code[e] != " " library " : : " given " ( " names (names == "" ? "" : " ") ") ") fault(exports[e] ": " e " does something else than to hand over to " f)
+}
 
 # the path of a function's contract below the proofs of its crate: a method stands where its type is declared
 function path_of(f,    place) {
@@ -66,12 +137,17 @@ function path_of(f,    place) {
 }
 
 # nothing may be written by hand where the check makes the contract
-function judge_generated(f,    path, file) {
+function judge_generated(f,    path, proofs, specs) {
     path = path_of(f)
     gsub(/[.]/, "/", path)
-    file = "crates/" crate_of[f] "/proofs/"
-    if (stands(file path "/Reads.antt") || stands(file path "/Kinds.antt")) fault(file path " has a file with the name of a generated part")
-    for (; path != ""; sub(/\/?[^\/]*$/, "", path)) if (stands(file path ".antt")) fault(file path ".antt has the name of a generated module")
+    proofs = "crates/" crate_of[f] "/proofs/"
+    specs = "crates/" crate_of[f] "/specs/contracts"
+    if (stands(proofs path "/Reads.antt") || stands(proofs path "/Kinds.antt")) fault(proofs path " has a file with the name of a generated part")
+    if (stands(specs ".antt")) fault(specs ".antt has the name of a generated module")
+    for (; path != ""; sub(/\/?[^\/]*$/, "", path)) {
+        if (stands(proofs path ".antt")) fault(proofs path ".antt has the name of a generated module")
+        if (stands(specs "/" path ".antt")) fault(specs "/" path ".antt has the name of a generated module")
+    }
 }
 
 # ---- the theorems
@@ -79,8 +155,10 @@ function judge_generated(f,    path, file) {
 # a name that a file brings or defines, in each of its spellings
 function note(table, name,    n, i, spelling) {
     n = spellings(name, spelling)
-    for (i = 1; i <= n; i++) table[declared_in, spelling[i]]++
-    if (name ~ /^Rattle·/) fault(declared_at ": " name " has the name of a library")
+    for (i = 1; i <= n; i++) {
+        table[declared_in, spelling[i]]++
+        if (spelling[i] == "Rattle") fault(declared_at ": " name " has the name of a library")
+    }
 }
 
 function names_any(text, wanted,    n, i, word) {
@@ -103,9 +181,9 @@ function declaration_read(text,    form) {
 
 # the contracts by which the demands are told: each is brought by a `use` of its own
 function read_promised(text) {
-    if (!parse_use(text) || item[1] != "" || used_path !~ /^Rattle·[a-z0-9_]+[.]proofs[.]/) return
-    sub(/^Rattle·/, "", used_path)
-    sub(/[.]proofs[.]/, ".", used_path)
+    if (!parse_use(text) || item[1] != "" || used_path !~ /^Rattle[.][a-z0-9_]+[.](proofs[.].*[.]Reads|specs[.]contracts[.].*)$/) return
+    sub(/^Rattle[.]/, "", used_path)
+    sub(/[.](proofs|specs[.]contracts)[.]/, ".", used_path)
     sub(/[.]Reads$/, "", used_path)
     promised[used_path] = 1
 }
@@ -151,26 +229,36 @@ function judge_proof(form) {
     unproved = ""
 }
 
-# the contract that a statement is about, if it is that contract's and nothing else
-function contract_in(statement,    C, clauses) {
+# The contract that a statement is about, if it is that contract's and nothing else. It has two names, which `contract_at` judges: its signature and its
+# clauses as assertions stand below the specs of the crate, and its clauses as facts below its proofs. "" where it is no such statement.
+function contract_in(statement,    E, C, clauses) {
+    E = signature_in(statement)
+    if (statement == "FixesLent " E ".ended " lent_clauses(E)) return E
     C = statement
-    sub(/^[^ ]+ /, "", C)
-    sub(/[.]ended .*$/, "", C)
+    sub(/[.]Reads[.]Post$/, "", C)
+    sub(/^.* /, "", C)
     clauses = C ".Reads.Pre " C ".Reads.Post"
-    if (statement == "Fixes " C ".ended " clauses) return C
-    if (statement == "FixesTyped " C ".ended (" C ".Kinds.r .is .Ok) " clauses) return C
-    return statement == "FixesLent " C ".ended (λ M 𝓤. " C ".clauses 𝓤)" ? C : ""
+    return statement == "Fixes " E ".ended " clauses || statement == "FixesTyped " E ".ended (" C ".Kinds.r).is.Ok " clauses ? E " " C : ""
 }
+
+# the name before the first `.ended`
+function signature_in(statement) {
+    sub(/^[^ ]+ /, "", statement)
+    sub(/[.]ended .*$/, "", statement)
+    return statement
+}
+
+function lent_clauses(E) { return "(λ M 𝓤 𝓛. " E ".clauses 𝓛)" }
 
 # the theorem of one answer that a statement of a wrong engine names; what follows stands in parentheses
 function refuted_in(statement,    rest, names) {
-    if (statement !~ "^(" wrong_engine ") ([^ ()]+|[(][^ ()]+ [.]fixes[)]) ") return ""
+    if (statement !~ "^(" wrong_engine ") [^ ()]+ ") return ""
     rest = statement
     sub(/^[^ ]+ /, "", rest)
     names = rest
-    sub(/^[(]/, "", names)
     sub(/ .*$/, "", names)
-    sub(/^([^ (]+|[(][^ ]+ [.]fixes[)]) /, "", rest)
+    sub(/[.]fixes$/, "", names)
+    sub(/^[^ ]+ /, "", rest)
     while (gsub(/[(][^()]*[)]/, "", rest)) continue
     return rest ~ /^ *$/ ? names : ""
 }
@@ -180,16 +268,24 @@ function judge_word(file, word, meaning) {
     if (brings[file, word] != 1 || ((file, word) in defines) || meant[file, word] != meaning) fault(file ": " word " has to be " meaning ", brought once and not defined anew")
 }
 
-# a contract as a file names it, by the crate and the path below its proofs
-function contract_at(file, C,    alias, owner) {
+# a contract as a file names it, once or twice, by the crate and the path of its function
+function contract_at(file, names,    n, name, of) {
+    n = split(names, name, " ")
+    of = part_at(file, name[1], "specs.contracts")
+    if (n > 1 && part_at(file, name[2], "proofs") != of) { fault(file ": " name[1] " and " name[2] " are not of one contract"); return "no contract" }
+    return of
+}
+
+# the crate and the path of a name that begins with an alias of what a crate has there
+function part_at(file, C, where,    alias, owner, of) {
     alias = C
     sub(/[.].*$/, "", alias)
-    owner = meant[file, alias]
-    if (owner !~ /^Rattle·[a-z0-9_]+[.]proofs$/) { fault(file ": " alias " is not brought as the proofs of a crate"); return "no contract" }
+    owner = of = meant[file, alias]
+    sub(/^Rattle[.]/, "", of)
+    sub(/[.].*$/, "", of)
+    if (of !~ /^[a-z0-9_]+$/ || owner != "Rattle." of "." where) { fault(file ": " alias " is not brought as the " where " of a crate"); return "no contract" }
     judge_word(file, alias, owner)
-    sub(/^Rattle·/, "", owner)
-    sub(/[.]proofs$/, "", owner)
-    return owner substr(C, length(alias) + 1)
+    return of substr(C, length(alias) + 1)
 }
 
 function judge_statement(theorem,    file, of) {
@@ -201,7 +297,7 @@ function judge_statement(theorem,    file, of) {
     of = theorem in refutes ? refutes[theorem] : ""
     if (of == "") return
     if (!(of in about)) fault(file ": " theorem " names " of ", which is no theorem of one answer")
-    else if (stated_in[of] != file) judge_word(file, of, "Rattle·one_answer·proofs.proofs." module_name(stated_in[of]) ".{" of "}")
+    else if (stated_in[of] != file) judge_word(file, of, "Rattle.one_answer.proofs." module_name(stated_in[of]) ".{" of "}")
 }
 
 function module_name(file) {
@@ -211,18 +307,19 @@ function module_name(file) {
 }
 
 # the statement that nothing is asked: one conjunct for each function, and nothing else
-function judge_demand(file, statement,    n, i, part, C) {
+function judge_demand(file, statement,    n, i, part, E, C) {
     if (brings[file, "×"] || ((file, "×") in defines)) fault(file ": × has to be the language's own")
     n = split(statement, part, " × ")
     for (i = 1; i <= n; i++) {
         if (part[i] ~ /^[(].*[)]$/) part[i] = substr(part[i], 2, length(part[i]) - 2)
+        E = signature_in(part[i])
         C = part[i]
-        sub(/^[^ ]+ /, "", C)
-        sub(/[.]ended .*$/, "", C)
-        if (part[i] == "Answers " C ".ended " C ".Reads.Pre") judge_word(file, "Answers", home["Answers"] ".{Answers}")
-        else if (part[i] == "AnswersLent " C ".ended (λ M 𝓤. " C ".clauses 𝓤)") judge_word(file, "AnswersLent", home["Answers"] ".{AnswersLent}")
+        sub(/[.]Reads[.]Pre$/, "", C)
+        sub(/^.* /, "", C)
+        if (part[i] == "Answers " E ".ended " C ".Reads.Pre") judge_word(file, "Answers", home["Answers"] ".{Answers}")
+        else if (part[i] == "AnswersLent " E ".ended " lent_clauses(E)) { judge_word(file, "AnswersLent", home["Answers"] ".{AnswersLent}"); C = "" }
         else { fault(file ": `" part[i] "` is not exactly what one contract asks"); continue }
-        C = contract_at(file, C)
+        C = contract_at(file, E " " C)
         if (C in answered) fault(file ": " C " is named twice")
         answered[C] = 1
     }
@@ -269,6 +366,7 @@ function judge_function(f,    theorem, contract, told_of) {
     judge_generated(f)
     if (demand_stands && !(contract in answered)) fault(f " is not named in " demand)
     if ((f in for_c) && !(contract in promised)) fault(f " is exported to C, and no file of crates/promises/specs brings its contract")
+    if ((f in for_c) && !((crate_of[f] "_c" substr(f, length(crate_of[f]) + 1)) in exports)) fault(f " is marked for C, and no static library exports it")
     if (!(f in theorem_of)) { fault(f " is not in docs/ONE-ANSWER.md"); return }
     theorem = theorem_of[f]
     if (!(theorem in about)) fault(f ": crates/one_answer/proofs has no theorem " theorem)
@@ -280,8 +378,7 @@ function judge_function(f,    theorem, contract, told_of) {
 }
 
 # the crates that hold the theorems are among those that are proved
-function judge_crates(    line) {
-    while ((getline line < "crates.txt") > 0) if (line ~ /^[a-z0-9_]+:/) proved[substr(line, 1, index(line, ":") - 1)] = 1
+function judge_crates() {
     if (!("one_answer" in proved) || !("promises" in proved)) fault("crates.txt does not name both one_answer and promises")
 }
 
@@ -295,6 +392,7 @@ END {
     for (t in stated_in) judge_statement(t)
     for (f in theorem_of) if (!(f in crate_of)) fault(f " is in docs/ONE-ANSWER.md, and is no public function")
     for (f in crate_of) judge_function(f)
+    for (e in exports) judge_export(e)
     for (C in answered) if (!(C in of_a_function)) fault(demand ": " C " is the contract of no public function")
     for (one in named) {
         file = one
