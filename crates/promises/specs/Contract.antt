@@ -1,6 +1,6 @@
 -- A contract, as the check makes it of the clauses of a public function; no copy of one is written here.
 --     ended            the signature.        Reads.Pre, Reads.Post     the clauses as plain facts
---     clauses          the clauses as assertions of the logic. A method that is lent a struct has no `Pre` and `Post`, and of it these are taken
+--     clauses          the clauses as assertions of the logic; of a method that is lent a struct these are taken
 use Rattle.std.specs.Prelude.{◌≡◌}
 use seplogic.Ra.Ura.{Ura}
 use base.Logic.{SProp, emp}
