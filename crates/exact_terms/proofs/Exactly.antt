@@ -1,4 +1,4 @@
--- A posit and a product as exact terms: their exact values, told in units of 2 ^ - packedUnit, are a significand times a power of two with a sign. What the scales and
+-- A posit and a product as exact terms: their exact values, told in units of 2 ^ - packed_unit, are a significand times a power of two with a sign. What the scales and
 -- significands tell of the values (`value_scaled`, `product_scaled`) is moved to these units.
 use mathlib.Core.Path.{◌≡◌, sym, ap, ap₂, ◌∙◌}
 use mathlib.Core.Bool.{Bool, false, xor}

@@ -1,7 +1,7 @@
 -- How an engine is shown to be wrong: on arguments whose answers by the contract are computed.
---     constant-fails       two arguments whose answers differ: `NoConstant`
---     asking-fails         one argument that does not have what is asked: `NotAsking`.        asking-lent-fails       likewise: `NotAskingLent`
---     always-fails         one argument of a kind whose answer is another: `NotAlways`.        never       likewise, of any argument: `Never`
+--     constant_fails       two arguments whose answers differ: `NoConstant`
+--     asking_fails         one argument that does not have what is asked: `NotAsking`.        asking_lent_fails       likewise: `NotAskingLent`
+--     always_fails         one argument of a kind whose answer is another: `NotAlways`.        never       likewise, of any argument: `Never`
 use mathlib.Core.Path.{◌≡◌, refl, sym, subst, ◌∙◌}
 use mathlib.Core.Bool.{not}
 use Prim.Native.Nat.{ℕ}

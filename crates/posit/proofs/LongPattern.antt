@@ -1,4 +1,4 @@
--- The long-pattern law. Take a pattern of j digits too many whose size is at most x, with x below the next one's. The rounding of x is then told by its digit
+-- The long_pattern law. Take a pattern of j digits too many whose size is at most x, with x below the next one's. The rounding of x is then told by its digit
 -- string alone: the digits that fit, one more if the first digit cut off is 1 and anything follows it (or, at a tie, to make the last one even),
 -- kept between the smallest and the largest pattern. So no operation reasons about values near a cut: it builds digits and a sticky bit.
 use mathlib.Core.Path.{◌≡◌, sym, ap, ◌∙◌, subst}

@@ -1,5 +1,5 @@
 -- A size told as a significand and a scale, and the pattern it is rounded to: the run that the scale gives, the exponent's digits and the fraction's make up a
--- long pattern, to which the long-pattern law applies. The significand may stop short of x, if x lies below the next one: what is left goes into the sticky bit.
+-- long pattern, to which the long_pattern law applies. The significand may stop short of x, if x lies below the next one: what is left goes into the sticky bit.
 use mathlib.Core.Path.{◌≡◌, sym, ap, ◌∙◌}
 use mathlib.Core.Bool.{Bool, ◌||◌}
 use Prim.Native.Nat.{ℕ, zero, suc, ◌+◌, ◌-◌, ◌*◌, ◌/◌, ◌%◌, ◌^◌, ◌≤◌, ◌<◌}

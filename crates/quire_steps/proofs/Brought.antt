@@ -1,4 +1,4 @@
--- A posit, or the exact product of two, as an operand of a step: what scale and significand tell of a value, in units of 2 ^ - operandUnit, one word finer than those of
+-- A posit, or the exact product of two, as an operand of a step: what scale and significand tell of a value, in units of 2 ^ - operand_unit, one word finer than those of
 -- the accumulator. No digit of an operand is below that unit, since the value is a whole number of it (`undivided`).
 use mathlib.Core.Path.{◌≡◌, refl, sym, ap, ◌∙◌}
 use mathlib.Core.Logic.{◌≢◌, inr}

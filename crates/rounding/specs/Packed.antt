@@ -2,7 +2,7 @@
 use Rattle.std.specs.Prelude.{ℕ, ◌+◌, ◌*◌, ◌%◌, ◌^◌, Bool}
 use mir.Val.{bool_byte}
 
--- `pack` tells a size in units of 2 ^ - packedUnit: at the scale 1024 the leading one counts 1, and 61 digits of a fraction and one for the sticky bit stand below it.
+-- `pack` tells a size in units of 2 ^ - packed_unit: at the scale 1024 the leading one counts 1, and 61 digits of a fraction and one for the sticky bit stand below it.
 abbrev pub packed_unit : ℕ
 packed_unit = 1024 + 62
 

@@ -1,6 +1,6 @@
 -- The scale of a pattern, 120 + 4k + e: the regime and the exponent are a quotient and a remainder of it (`regime_back`, `exponent_back`), and the significand at
 -- this scale is the size (`scales`).
-use Rattle.std.proofs.Common.{◌≡◌, ℕ, suc, ◌+◌, ◌-◌, ◌*◌, ◌/◌, ◌%◌, ◌^◌, ◌<◌, ◌≤◌, true, false, ℤ, pos, negsuc, ◌-ℤ◌, nat_abs, ap, ◌∙◌, inl, inr, le_trans, lt_of_lt_of_le, lt_irrefl, mul-le-mul_right, arith, lit<, lit≤, pow-add}
+use Rattle.std.proofs.Common.{refl, ◌≡◌, ℕ, suc, ◌+◌, ◌-◌, ◌*◌, ◌/◌, ◌%◌, ◌^◌, ◌<◌, ◌≤◌, true, false, ℤ, pos, negsuc, ◌-ℤ◌, nat_abs, ap, ◌∙◌, inl, inr, le_trans, lt_of_lt_of_le, lt_irrefl, mul-le-mul_right, arith, lit<, lit≤, pow-add}
 use native.Mathlib.Decide.{dec_lt, ℕ_discrete}
 use lib.IntN.{+ℤ_comm}
 use lib.Pow.{pow-lt}
@@ -62,6 +62,13 @@ scales b k =
       size_is = is;
       in_scale = record { leading = significand_ge 2 31 b; below = significand_lt 2 31 b (lit< tt); high = scale_high b c g k (significand_ge 2 31 b) is };
     }
+
+-- zero and NaR have no size
+pub zero_unscaled : (p : ℕ) → p ≡ 0 → IsScaled p 0 0
+zero_unscaled p z = record { of_real = λ k. absurd (k.0 z); of_other = λ _. (refl, refl) }
+
+pub nar_unscaled : (p : ℕ) → p ≡ nar 31 → IsScaled p 0 0
+nar_unscaled p n = record { of_real = λ k. absurd (k.1 n); of_other = λ _. (refl, refl) }
 
 -- of every pattern
 pub scaled_below : (p c g : ℕ) → IsScaled p c g → (c ≤ unit 2 31) × (g < 2 ^ 31)

@@ -2,7 +2,7 @@
 use Rattle.std.specs.Prelude.{◌≡◌, ℕ, ◌+◌, ◌*◌, ◌^◌, ◌<◌, ◌≤◌, ◌≢◌, ◌⊎◌}
 use Rattle.posit.specs.Pattern.{nar, unsigned, size, least, unit}
 
--- A significand has 30 digits behind its leading one: in units of 2 ^ - scaledUnit the smallest size, 2 ^ - least, has the scale 0.
+-- A significand has 30 digits behind its leading one: in units of 2 ^ - scaled_unit the smallest size, 2 ^ - least, has the scale 0.
 abbrev pub scaled_unit : ℕ
 scaled_unit = least 2 31 + 30
 
@@ -12,7 +12,7 @@ pub record InScale (c g : ℕ) : Type 0 where
   pub below : g < 2 ^ 31
   pub high : c ≤ unit 2 31
 
--- the size of the pattern b is g * 2 ^ c units of 2 ^ - scaledUnit
+-- the size of the pattern b is g * 2 ^ c units of 2 ^ - scaled_unit
 pub record Scales (b c g : ℕ) : Type 0 where
   pub size_is : size 2 31 scaled_unit b ≡ g * 2 ^ c
   pub in_scale : InScale c g

@@ -15,6 +15,7 @@ pub struct Scaled {
 }
 
 // The scale and the significand of every pattern; for zero and NaR, which have none, both are 0.
+#[tactic(auto, using(crate::proofs::Scale::zero_unscaled, crate::proofs::Scale::nar_unscaled))]
 pub fn scaled_of(p: u32) -> Scaled
     ensures { IsScaled p result.scale result.significand }
 {

@@ -7,14 +7,12 @@ use Rattle.quire_steps.proofs.fdp_one.Goals as goal
 
 pub returns-then-x : goal.returns-then-x
 returns-then-x c =
-    let k = c in
-    let a = k.args in
-    let x = k.posit_of-x.result in
+    let a = c.args in
+    let x = c.posit_of-x.result in
     let nar : brought x.nar x.negative x.shift x.significand ≡ not_real = rw c.if-x.true in
-    c.not_real.ensures ∙ ap (words 512) (sym (ap (moved a.added (from_words 512 a.q)) (sym k.posit_of-x.ensures.1 ∙ nar) ∙ moved_by_nar a.added (from_words 512 a.q)))
+    c.not_real.ensures ∙ ap (words 512) (sym (ap (moved a.added (from_words 512 a.q)) (sym c.posit_of-x.ensures.1 ∙ nar) ∙ moved_by_nar a.added (from_words 512 a.q)))
 
 pub returns : goal.returns
 returns c =
-    let k = c in
-    let a = k.args in
-    moved_by a.added (from_words 512 a.q) c.step_by.ensures k.posit_of-x.ensures.1
+    let a = c.args in
+    moved_by a.added (from_words 512 a.q) c.step_by.ensures c.posit_of-x.ensures.1

@@ -16,33 +16,27 @@ use Rattle.quire_steps.proofs.join.Goals as goal
 
 pub returns-then-is_alone : goal.returns-then-is_alone
 returns-then-is_alone c =
-    let at = c in
-    let a = at.args in
-    let nar = read_nar a.q (eqb-true (wide a.q) (2 ^ 511) (sym at.is_alone.ensures ∙ c.if-is_alone.true)) in
+    let a = c.args in
+    let nar = read_nar a.q (eqb-true (wide a.q) (2 ^ 511) (sym c.is_alone.ensures ∙ c.if-is_alone.true)) in
     c.not_real.ensures ∙ ap (words 512) (sym (ap (λ q. moved a.added q (from_words 512 a.p)) nar ∙ nar_moves a.added (from_words 512 a.p)))
 
 pub returns-then-is_alone-2 : goal.returns-then-is_alone-2
 returns-then-is_alone-2 c =
-    let at = c in
-    let a = at.args in
-    let nar = read_nar a.p (eqb-true (wide a.p) (2 ^ 511) (sym at.is_alone-2.ensures ∙ c.if-is_alone-2.true)) in
+    let a = c.args in
+    let nar = read_nar a.p (eqb-true (wide a.p) (2 ^ 511) (sym c.is_alone-2.ensures ∙ c.if-is_alone-2.true)) in
     c.not_real-then-is_alone-2.ensures ∙ ap (words 512) (sym (ap (moved a.added (from_words 512 a.q)) nar ∙ moved_by_nar a.added (from_words 512 a.q)))
 
 pub returns : goal.returns
 returns c =
-    let signed = c in
-    let tested = signed in
-    let first = tested in
-    let k = first in
-    let q = k.args.q in
-    let p = k.args.p in
-    let added = k.args.added in
+    let q = c.args.q in
+    let p = c.args.p in
+    let added = c.args.added in
     let r = words_typed 8 c.judged.result c.judged.type_inv in
-    let ne = eqb-false (wide q) (2 ^ 511) (sym first.is_alone.ensures ∙ first.if-is_alone.false) in
-    let ne' = eqb-false (wide p) (2 ^ 511) (sym tested.is_alone-2.ensures ∙ tested.if-is_alone-2.false) in
+    let ne = eqb-false (wide q) (2 ^ 511) (sym c.is_alone.ensures ∙ c.if-is_alone.false) in
+    let ne' = eqb-false (wide p) (2 ^ 511) (sym c.is_alone-2.ensures ∙ c.if-is_alone-2.false) in
     let sum = c.add.ensures ∙ ap (λ (n : ℕ). (wide q + n + bool_byte (not added)) % 2 ^ 512) c.turned_words.ensures in
-    let sign = ap (λ (b : Bool). beq b added) (sign_told (leb (2 ^ 511) (wide p)) _ signed.sign_of.ensures) in
+    let sign = ap (λ (b : Bool). beq b added) (sign_told (leb (2 ^ 511) (wide p)) _ c.sign_of.ensures) in
     spelt _ c.judged.result r.0 r.1
     (c.judged.ensures
     ∙ ap (λ (s : Bool). cond (escaped (leb (2 ^ 511) (wide q)) s (leb (2 ^ 511) (wide c.add.result))) (2 ^ 511) (wide c.add.result)) sign
-    ∙ joined_bits added q p _ ne (wide_typed q k.well_formed.0) ne' (wide_typed p k.well_formed.1.0) sum)
+    ∙ joined_bits added q p _ ne (wide_typed q c.well_formed.0) ne' (wide_typed p c.well_formed.1.0) sum)

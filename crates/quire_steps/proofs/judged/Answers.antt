@@ -29,9 +29,8 @@ tested b s a t x y ex ey e = sym (seen b s a) ∙ ap₂ (λ (u v : ℕ). ltb (bi
 pub returns-then-sign_of-s : goal.returns-then-sign_of-s
 unfolding number words bits_of digits
 returns-then-sign_of-s c =
-    let at = c in
-    let k = at.args in
-    let out = tested (leb (2 ^ 511) (wide k.before)) k.negative (leb (2 ^ 511) (wide k.after)) true _ _ at.sign_of.ensures at.sign_of-2.ensures (lt-ltb _ _ c.if-sign_of-s.true) in
+    let k = c.args in
+    let out = tested (leb (2 ^ 511) (wide k.before)) k.negative (leb (2 ^ 511) (wide k.after)) true _ _ c.sign_of.ensures c.sign_of-2.ensures (lt-ltb _ _ c.if-sign_of-s.true) in
     rw (out, c.not_real.ensures)
 
 pub returns-else-sign_of-s : goal.returns-else-sign_of-s

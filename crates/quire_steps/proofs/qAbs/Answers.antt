@@ -13,13 +13,11 @@ use Rattle.quire_steps.proofs.qAbs.Goals as goal
 pub returns-then-is_alone : goal.returns-then-is_alone
 unfolding sign_off
 returns-then-is_alone c =
-    let at = c in
-    let q = at.args.q in
-    c.not_real.ensures ∙ ap (words 512) (sym (ap sign_off (read_nar q (eqb-true (wide q) (2 ^ 511) (sym at.is_alone.ensures ∙ c.if-is_alone.true)))))
+    let q = c.args.q in
+    c.not_real.ensures ∙ ap (words 512) (sym (ap sign_off (read_nar q (eqb-true (wide q) (2 ^ 511) (sym c.is_alone.ensures ∙ c.if-is_alone.true)))))
 
 pub returns : goal.returns
 returns c =
-    let at = c in
-    let q = at.args.q in
+    let q = c.args.q in
     let r = words_typed 8 c.size_of.result c.size_of.type_inv in
-    spelt _ c.size_of.result r.0 r.1 (c.size_of.ensures ∙ size_bits q (eqb-false (wide q) (2 ^ 511) (sym at.is_alone.ensures ∙ c.if-is_alone.false)))
+    spelt _ c.size_of.result r.0 r.1 (c.size_of.ensures ∙ size_bits q (eqb-false (wide q) (2 ^ 511) (sym c.is_alone.ensures ∙ c.if-is_alone.false)))

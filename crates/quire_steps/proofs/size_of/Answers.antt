@@ -11,14 +11,13 @@ use Rattle.quire_steps.proofs.size_of.Goals as goal
 
 pub returns-then-sign_of-eq1 : goal.returns-then-sign_of-eq1
 returns-then-sign_of-eq1 c =
-    let k = c in
-    let q = k.args.q in
+    let q = c.args.q in
     let below = sym (sign_told (leb (2 ^ 511) (wide q)) _ c.sign_of.ensures) ∙ eq-eqb _ 1 c.if-sign_of-eq1.true in
-    c.negative_of.ensures ∙ sym (size_high (2 ^ 511) (wide q) (lit< tt) (leb-true (2 ^ 511) (wide q) below) (wide_typed q k.well_formed.0))
+    let high = size_high (2 ^ 511) (wide q) (lit< tt) (leb-true (2 ^ 511) (wide q) below) (wide_typed q c.well_formed.0) in
+    cc
 
 pub returns-else-sign_of-eq1 : goal.returns-else-sign_of-eq1
 returns-else-sign_of-eq1 c =
-    let k = c in
-    let q = k.args.q in
+    let q = c.args.q in
     let above = sym (sign_told (leb (2 ^ 511) (wide q)) _ c.sign_of.ensures) ∙ ne_eqb _ 1 c.if-sign_of-eq1.false in
     sym (size_low (2 ^ 511) (wide q) (leb-false (2 ^ 511) (wide q) above))

@@ -15,9 +15,8 @@ use Rattle.quire_steps.proofs.step.Goals as goal
 
 pub returns-then-is_alone : goal.returns-then-is_alone
 returns-then-is_alone c =
-    let at = c in
-    let a = at.args in
-    let nar = read_nar a.q (eqb-true (wide a.q) (2 ^ 511) (sym at.is_alone.ensures ∙ c.if-is_alone.true)) in
+    let a = c.args in
+    let nar = read_nar a.q (eqb-true (wide a.q) (2 ^ 511) (sym c.is_alone.ensures ∙ c.if-is_alone.true)) in
     c.not_real.ensures ∙ ap (words 512) (sym (ap (λ q. plus 512 q (brought a.x.nar a.x.negative a.x.shift a.x.significand)) nar ∙ nar_moves true (brought a.x.nar a.x.negative a.x.shift a.x.significand)))
 
 pub returns-then-x : goal.returns-then-x
@@ -28,16 +27,13 @@ returns-then-x c =
 
 pub returns : goal.returns
 returns c =
-    let real = c in
-    let tested = real in
-    let k = tested in
-    let q = k.args.q in
-    let x = k.args.x in
+    let q = c.args.q in
+    let x = c.args.x in
     let m = amount x.shift x.significand in
     let r = words_typed 8 c.judged.result c.judged.type_inv in
-    let stands : brought x.nar x.negative x.shift x.significand ≡ total (with_sign x.negative m) = rw real.if-x.false in
-    let ne = eqb-false (wide q) (2 ^ 511) (sym tested.is_alone.ensures ∙ tested.if-is_alone.false) in
+    let stands : brought x.nar x.negative x.shift x.significand ≡ total (with_sign x.negative m) = rw c.if-x.false in
+    let ne = eqb-false (wide q) (2 ^ 511) (sym c.is_alone.ensures ∙ c.if-is_alone.false) in
     spelt _ c.judged.result r.0 r.1
     (c.judged.ensures
-    ∙ stepped_bits x.negative q m _ ne (wide_typed q k.well_formed.0) (amount_below x.significand x.shift (omega arith) k.requires.0) c.sum_at.ensures
+    ∙ stepped_bits x.negative q m _ ne (wide_typed q c.well_formed.0) (amount_below x.significand x.shift (omega arith) c.requires.0) c.sum_at.ensures
     ∙ ap (λ y. bits_of 512 (plus 512 (from_words 512 q) y)) (sym stands))

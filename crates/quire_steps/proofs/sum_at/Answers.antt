@@ -1,7 +1,7 @@
 -- `sum_at` meets its contract: the two words are two columns of a chain, each turn of the loop is one more with nothing to add, and it ends where what is carried is the digit above or no word is
 -- left. The loop keeps to whatever chain it was given.
 use mathlib.Core.Path.{◌≡◌, refl, sym, ap, ◌∙◌}
-use mathlib.Core.Logic.{◌⊎◌, inl, inr, ⊎_map}
+use mathlib.Core.Logic.{◌⊎◌, ⊎_map}
 use mathlib.Core.Bool.{Bool, true, false, not, beq, true≢false}
 use Prim.Native.Nat.{ℕ, ◌+◌, ◌*◌, ◌/◌, ◌^◌, ◌<◌}
 use native.Mathlib.Nat.{lt_trans}
@@ -16,7 +16,6 @@ use Rattle.quire_words.proofs.Chain.{Shifted, carried_on, ended}
 use Rattle.quire_steps.proofs.Moved.{two_columns, chained}
 use Rattle.quire_steps.proofs.Stepped.{amount_below}
 use Rattle.quire_steps.proofs.sum_at.Goals as goal
-use Rattle.quire_steps.proofs.sum_at.Goals.{then-loop-carry-test+else-i-lt9, else-loop-carry-test}
 
 alike : (a b : Bool) → not (beq a b) ≡ false → a ≡ b
 alike true true e = refl
@@ -38,11 +37,7 @@ returns c =
     let given = c.places_of-r.result in
     let nine : length given ≡ 9 = (words_typed 9 given c.places_of-r.type_inv).0 in
     -- no word is left, or what is carried is the digit above
-    let done : (at.carry ≡ a.negative) ⊎ (at.i ≡ 9) =
-    elim c.loop-carry-test.branch [
-      | then-loop-carry-test+else-i-lt9 w ↦ inr (omega arith)
-      | else-loop-carry-test w ↦ inl (alike _ _ w.loop-carry-test.false)
-    ] in
+    let done : (at.carry ≡ a.negative) ⊎ (at.i ≡ 9) = grind (arith, alike) in
     let columns =
     two_columns a.negative c.add_word-low.result.carry c.add_word-high.result.carry a.significand a.shift _ _ _ _ given nine (omega arith) c.requires.0 c.turned_word.ensures c.turned_word-2.ensures
     c.add_word-low.ensures c.add_word-high.ensures in

@@ -40,9 +40,8 @@ overflow_shl-result-2 c = (lead c.args.w c.first_word-i.result c.well_formed.0 c
 
 pub returns : goal.returns
 returns c =
-    let k = c in
-    let w = k.args.w in
-    let i = k.first_word-i.result in
-    let t = lead w i k.well_formed.0 k.first_word-i.ensures.0 k.first_word-i.ensures.2 in
-    let e = words_typed 8 w k.well_formed.0 in
-    rw (c.word_at-next.ensures, c.any_from.ensures) (digits_of w e.0 e.1 i _ k.first_word-i.ensures.0 t.0 k.first_word-i.ensures.1 t.1 t.2)
+    let w = c.args.w in
+    let i = c.first_word-i.result in
+    let t = lead w i c.well_formed.0 c.first_word-i.ensures.0 c.first_word-i.ensures.2 in
+    let e = words_typed 8 w c.well_formed.0 in
+    rw (c.word_at-next.ensures, c.any_from.ensures) (digits_of w e.0 e.1 i _ c.first_word-i.ensures.0 t.0 c.first_word-i.ensures.1 t.1 t.2)

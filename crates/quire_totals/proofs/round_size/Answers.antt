@@ -35,7 +35,6 @@ overflow_add-x-2 c = record { fits = omega (arith, digit_lt c.first_digits-x.res
 
 pub returns : goal.returns
 returns c =
-    let k = c in
-    let a = k.args in
-    let x = k.first_digits-x.result in
-    c.pack.ensures ∙ sym (digits_rounded a.negative (wide a.w) x.unit x.digits x.more k.requires k.first_digits-x.ensures)
+    let a = c.args in
+    let x = c.first_digits-x.result in
+    c.pack.ensures ∙ sym (digits_rounded a.negative (wide a.w) x.unit x.digits x.more c.requires c.first_digits-x.ensures)

@@ -17,7 +17,6 @@ two_posits-rest-requires c = tt
 
 pub returns : goal.returns
 returns c =
-    let k = c in
-    let first = k.to_posit-first.result.0 in
+    let first = c.to_posit-first.result.0 in
     ap (λ (l : List ℕ). first ∷ l) c.two_posits-rest.ensures
-    ∙ parts_next 2 first (from_words 512 k.args.q) c.sub_posit.result k.to_posit-first.ensures c.sub_posit.ensures
+    ∙ parts_next 2 first (from_words 512 c.args.q) c.sub_posit.result c.to_posit-first.ensures c.sub_posit.ensures

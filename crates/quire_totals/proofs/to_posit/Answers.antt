@@ -44,18 +44,16 @@ returns-then-is_alone-2 c =
 
 pub round_size-requires : goal.round_size-requires
 round_size-requires c =
-    let k = c in
-    let q = k.args.q in
+    let q = c.args.q in
     let some = positive (wide q) (eqb-false (wide q) 0 (sym c.is_alone.ensures ∙ c.if-is_alone.false)) in
-    rw c.size_of.ensures (size_positive (2 ^ 511) (wide q) some (wide_typed q k.well_formed.0))
+    rw c.size_of.ensures (size_positive (2 ^ 511) (wide q) some (wide_typed q c.well_formed.0))
 
 pub returns : goal.returns
 returns c =
-    let k = c in
-    let q = k.args.q in
-    let w = words_typed 8 q k.well_formed.0 in
+    let q = c.args.q in
+    let w = words_typed 8 q c.well_formed.0 in
     let real = read_real q (eqb-false (wide q) (2 ^ 511) (sym c.is_alone-2.ensures ∙ c.if-is_alone-2.false)) in
     c.round_size.ensures
     ∙ ap (rounded 2 31 (unit 2 31))
-    (ap₂ with_sign (sign_seen q w.0 w.1) c.size_of.ensures ∙ sign_and_size (2 ^ 511) (wide q) (wide_typed q k.well_formed.0))
+    (ap₂ with_sign (sign_seen q w.0 w.1) c.size_of.ensures ∙ sign_and_size (2 ^ 511) (wide q) (wide_typed q c.well_formed.0))
     ∙ sym (rounds_real real)

@@ -8,8 +8,7 @@ use Rattle.quire_totals.proofs.two_posits.Goals as goal
 
 pub returns : goal.returns
 returns c =
-    let k = c in
-    let first = k.to_posit-first.result.0 in
+    let first = c.to_posit-first.result.0 in
     let rest = c.sub_posit.result in
     ap (λ (l : List ℕ). first ∷ l) (last_part _ (from_words 512 rest) c.to_posit-second.ensures)
-    ∙ parts_next 1 first (from_words 512 k.args.q) rest k.to_posit-first.ensures c.sub_posit.ensures
+    ∙ parts_next 1 first (from_words 512 c.args.q) rest c.to_posit-first.ensures c.sub_posit.ensures

@@ -28,7 +28,7 @@ module _ (n r : ℕ) (least : 2 ^ 62 ≤ n) (fits : n < 2 ^ 64) (low : r * r ≤
       significand_stands_for (finer (c + 31) (root n)) (finer_sound (c + 31) (root n) (omega arith)) 31 (lit≤ tt) (lit≤ tt) c r (c + 31) (omega arith) root_range.0 root_range.1 (ltb (r * r) n) counts
       ∙ ap (λ (F : ℕ). round 2 31 packed_unit (whole (packed_size c F (ltb (r * r) n)))) (sym (shl_exact 32 30 64 root_range.1 (omega arith)))
 
--- b is g * 2 ^ c units of 2 ^ - scaledUnit: g is shifted by 32, or 33 where c is odd
+-- b is g * 2 ^ c units of 2 ^ - scaled_unit: g is shifted by 32, or 33 where c is odd
 module _ (b c g : ℕ) (k : Positive 31 b) (s : Scales b c g) where
   abbrev number : ℕ
   number = g * 2 ^ (32 + c % 2)
@@ -64,10 +64,9 @@ returns-then-p-ge-NAR c = sym (root_of_none 2 31 c.args.p (omega arith))
 
 pub returns : goal.returns
 returns c =
-    let d = c in
-    let p = d.args.p in
-    let a = d.scaled_of-a.result in
+    let p = c.args.p in
+    let a = c.scaled_of-a.result in
     let r = c.root_of-r in
     let scales : Scales p a.scale a.significand =
-    subst (λ (b : ℕ). Scales b a.scale a.significand) (unsigned_below 31 p (omega arith)) (d.scaled_of-a.ensures.of_real (omega arith, omega arith)) in
+    subst (λ (b : ℕ). Scales b a.scale a.significand) (unsigned_below 31 p (omega arith)) (c.scaled_of-a.ensures.of_real (omega arith, omega arith)) in
     root_rounded p a.scale a.significand (omega arith, omega arith) scales r.result c.pack.result r.ensures.0 r.ensures.1 c.pack.ensures

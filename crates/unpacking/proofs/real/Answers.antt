@@ -29,21 +29,19 @@ module _ (b c : ℕ) (k : Positive 31 b) (is : c ≡ raised 2 (least 2 31) (regi
   exponent_is = rw is (exponent_back (regime 31 b) (exponent 2 31 b) (regime_small 31 b k) (exponent_lt 2 31 b))
 
 pub overflow_cast-result : goal.overflow_cast-result
-overflow_cast-result c = let k = c in record { sfits = quotient_short _ _ k.requires k.to_scaled-x.ensures.0 }
+overflow_cast-result c = record { sfits = quotient_short _ _ c.requires c.to_scaled-x.ensures.0 }
 
 pub overflow_sub-result : goal.overflow_sub-result
-overflow_sub-result c = let k = c in regime_fits _ _ k.requires k.to_scaled-x.ensures.0
+overflow_sub-result c = regime_fits _ _ c.requires c.to_scaled-x.ensures.0
 
 pub overflow_cast-result-2 : goal.overflow_cast-result-2
 overflow_cast-result-2 c =
-    let k = c in
-    record { fits = omega (arith, k.to_scaled-x.ensures.1, significand_lt 2 31 k.args.b (lit< tt)) }
+    record { fits = omega (arith, c.to_scaled-x.ensures.1, significand_lt 2 31 c.args.b (lit< tt)) }
 
 pub returns : goal.returns
 returns c =
-    let k = c in
-    let scale = k.to_scaled-x.ensures.0 in
+    let scale = c.to_scaled-x.ensures.0 in
     same_parts
-    (to_z-of_z (regime_fits _ _ k.requires scale) ∙ regime_is _ _ k.requires scale)
-    (exponent_is _ _ k.requires scale)
-    k.to_scaled-x.ensures.1
+    (to_z-of_z (regime_fits _ _ c.requires scale) ∙ regime_is _ _ c.requires scale)
+    (exponent_is _ _ c.requires scale)
+    c.to_scaled-x.ensures.1

@@ -15,14 +15,12 @@ loop-i-init c =
 
 pub loop-i-preserved : goal.loop-i-preserved
 loop-i-preserved c =
-    let f = c in
-    let k = f in
-    let a = k.args.a.now in
-    let b = k.args.b.now in
-    let i = k.loop-i.i in
-    let r = k.loop-i.r in
-    let stepped = c.add_product-s.ensures ∙ ap₂ (λ (x y : ℕ). words 512 (plus 512 (from_words 512 r) (of_product 2 31 x y))) f.from_bits.ensures c.from_bits-in-loop-i.ensures in
-    (search rules, batch_turn a b i r c.add_product-s.result (omega arith) (omega arith) stepped ∙ k.loop-i.invariant.1, stepped ∙ ap (words 512) (sym (ap (from_words 512) stepped ∙ plus_read (from_words 512 r) _)))
+    let a = c.args.a.now in
+    let b = c.args.b.now in
+    let i = c.loop-i.i in
+    let r = c.loop-i.r in
+    let stepped = c.add_product-s.ensures ∙ ap₂ (λ (x y : ℕ). words 512 (plus 512 (from_words 512 r) (of_product 2 31 x y))) c.from_bits.ensures c.from_bits-in-loop-i.ensures in
+    (search rules, batch_turn a b i r c.add_product-s.result (omega arith) (omega arith) stepped ∙ c.loop-i.invariant.1, stepped ∙ ap (words 512) (sym (ap (from_words 512) stepped ∙ plus_read (from_words 512 r) _)))
 
 pub returns : goal.returns
 returns c =

@@ -11,14 +11,12 @@ loop-i-init c = (search rules, refl)
 
 pub loop-i-preserved : goal.loop-i-preserved
 loop-i-preserved c =
-    let k = c in
-    let long : length k.args.image ≡ 64 = search rules in
+    let long : length c.args.image ≡ 64 = search rules in
     let h = c.loop-i.invariant in
-    (search rules, sym (same_more c.loop-i.equal k.args.image k.args.claim.now c.loop-i.i (omega arith) (omega (arith, k.requires))) ∙ h.1)
+    (search rules, sym (same_more c.loop-i.equal c.args.image c.args.claim.now c.loop-i.i (omega arith) (omega (arith, c.requires))) ∙ h.1)
 
 pub returns : goal.returns
 returns c =
-    let k = c in
-    let long : length k.args.image ≡ 64 = search rules in
+    let long : length c.args.image ≡ 64 = search rules in
     let h = c.loop-i.invariant in
-    sym (same_end c.loop-i.equal k.args.image k.args.claim.now c.loop-i.i (omega arith) (omega (arith, k.requires))) ∙ h.1
+    sym (same_end c.loop-i.equal c.args.image c.args.claim.now c.loop-i.i (omega arith) (omega (arith, c.requires))) ∙ h.1

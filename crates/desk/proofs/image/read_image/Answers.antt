@@ -8,15 +8,13 @@ use Rattle.desk.proofs.image.read_image.Goals as goal
 
 pub returns-then-bytes-ne-IMAGE_LENGTH : goal.returns-then-bytes-ne-IMAGE_LENGTH
 returns-then-bytes-ne-IMAGE_LENGTH c =
-    let k = c in
-    let q = k.args.q in
-    let no = other_length (from_words 512 q) k.args.bytes.now c.if-bytes-ne-IMAGE_LENGTH.true in
-    (sym no.0, words_back q k.well_formed.0 ∙ ap (words 512) (sym no.1))
+    let q = c.args.q in
+    let no = other_length (from_words 512 q) c.args.bytes.now c.if-bytes-ne-IMAGE_LENGTH.true in
+    (sym no.0, words_back q c.well_formed.0 ∙ ap (words 512) (sym no.1))
 
 pub returns : goal.returns
 returns c =
-    let k = c in
-    let bs = k.args.bytes.now in
-    let yes = right_length (from_words 512 k.args.q) bs (omega arith) in
+    let bs = c.args.bytes.now in
+    let yes = right_length (from_words 512 c.args.q) bs (omega arith) in
     let read = one_number c.words_of-words.result bs c.words_of-words.ensures in
     (sym yes.0, words_back c.words_of-words.result c.words_of-words.type_inv ∙ ap (words 512) (read ∙ sym yes.1))

@@ -10,8 +10,7 @@ loop-j-init c = (search rules, read_start c.args.bytes.now)
 
 pub loop-j-preserved : goal.loop-j-preserved
 loop-j-preserved c =
-    let k = c in
-    (search rules, word_more k.args.bytes.now k.loop-j.r k.loop-j.j c.word_at.result k.requires c.loop-j-test.true k.loop-j.invariant.1 c.word_at.ensures)
+    (search rules, word_more c.args.bytes.now c.loop-j.r c.loop-j.j c.word_at.result c.requires c.loop-j-test.true c.loop-j.invariant.1 c.word_at.ensures)
 
 pub returns : goal.returns
 returns c =

@@ -24,14 +24,12 @@ other_scale c g d h x y n = go (dec_lt c d)
 
 pub returns-then-x-y : goal.returns-then-x-y
 returns-then-x-y c =
-    let k = c in
-    let x = k.args.x in
-    let y = k.args.y in
+    let x = c.args.x in
+    let y = c.args.y in
     same_scale x.scale x.significand y.scale y.significand c.if-x-y.true
 
 pub returns-else-x-y : goal.returns-else-x-y
 returns-else-x-y c =
-    let k = c in
-    let x = k.args.x in
-    let y = k.args.y in
-    other_scale x.scale x.significand y.scale y.significand k.requires.0 k.requires.1 c.if-x-y.false
+    let x = c.args.x in
+    let y = c.args.y in
+    other_scale x.scale x.significand y.scale y.significand c.requires.0 c.requires.1 c.if-x-y.false

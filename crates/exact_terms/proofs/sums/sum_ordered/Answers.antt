@@ -27,51 +27,46 @@ module _ (hs hg ls lg : ℕ) (same : Bool) (x : Normal hs hg) (y : Normal ls lg)
 
 pub overflow_sub-high : goal.overflow_sub-high
 overflow_sub-high c =
-    let k = c in
-    let h = k.args.high in
-    let l = k.args.low in
-    greater_scale h.scale h.significand l.scale l.significand k.requires.0 k.requires.1 k.requires.2
+    let h = c.args.high in
+    let l = c.args.low in
+    greater_scale h.scale h.significand l.scale l.significand c.requires.0 c.requires.1 c.requires.2
 
 pub combined-n-requires : goal.combined-n-requires
 combined-n-requires c =
-    let k = c in
-    let h = k.args.high in
-    let l = k.args.low in
+    let h = c.args.high in
+    let l = c.args.low in
     let a = c.align-a.ensures in
     let d = h.scale - l.scale in (
       subst₂ (λ q b. q + bool_byte b ≤ h.significand) (sym a.0) (sym a.1)
-          (room h.significand l.significand (2 ^ d) (pow_pos d) (less h.scale h.significand l.scale l.significand k.requires.0 k.requires.1 k.requires.2)),
-      k.requires.0.below,
+          (room h.significand l.significand (2 ^ d) (pow_pos d) (less h.scale h.significand l.scale l.significand c.requires.0 c.requires.1 c.requires.2)),
+      c.requires.0.below,
     )
 
 pub returns-then-n-eq0 : goal.returns-then-n-eq0
 returns-then-n-eq0 c =
-    let k = c in
-    let h = k.args.high in
-    let l = k.args.low in
+    let h = c.args.high in
+    let l = c.args.low in
     let same = beq h.negative l.negative in
-    let none = nothing h.scale h.significand l.scale l.significand k.requires.0 k.requires.1 k.requires.2 same _ _ (found_here h.scale h.significand l.scale l.significand (beq h.negative l.negative) k.requires.0 k.requires.1 k.requires.2 k.align-a.result.kept k.combined-n.result k.align-a.result.lost k.align-a.ensures k.combined-n.ensures) c.if-n-eq0.true in
+    let none = nothing h.scale h.significand l.scale l.significand c.requires.0 c.requires.1 c.requires.2 same _ _ (found_here h.scale h.significand l.scale l.significand (beq h.negative l.negative) c.requires.0 c.requires.1 c.requires.2 c.align-a.result.kept c.combined-n.result c.align-a.result.lost c.align-a.ensures c.combined-n.ensures) c.if-n-eq0.true in
     sym
-    (ap (rounded 2 31 packed_unit) (sum_total h.negative l.negative (magnitude h.scale h.significand) (magnitude l.scale l.significand) k.requires.2 ∙ ap (with_sign h.negative) none)
+    (ap (rounded 2 31 packed_unit) (sum_total h.negative l.negative (magnitude h.scale h.significand) (magnitude l.scale l.significand) c.requires.2 ∙ ap (with_sign h.negative) none)
     ∙ none_rounded h.negative)
 
 pub pack_wide-requires : goal.pack_wide-requires
 pack_wide-requires c =
-    let k = c in
-    let h = k.args.high in
-    let l = k.args.low in
+    let h = c.args.high in
+    let l = c.args.low in
     let f =
-    found_here h.scale h.significand l.scale l.significand (beq h.negative l.negative) k.requires.0 k.requires.1 k.requires.2 k.align-a.result.kept k.combined-n.result k.align-a.result.lost k.align-a.ensures k.combined-n.ensures in
-    (omega arith, f.1, omega (arith, k.requires.0.low), omega (arith, k.requires.0.high))
+    found_here h.scale h.significand l.scale l.significand (beq h.negative l.negative) c.requires.0 c.requires.1 c.requires.2 c.align-a.result.kept c.combined-n.result c.align-a.result.lost c.align-a.ensures c.combined-n.ensures in
+    (omega arith, f.1, omega (arith, c.requires.0.low), omega (arith, c.requires.0.high))
 
 pub returns : goal.returns
 returns c =
-    let k = c in
-    let h = k.args.high in
-    let l = k.args.low in
-    let f = found_here h.scale h.significand l.scale l.significand (beq h.negative l.negative) k.requires.0 k.requires.1 k.requires.2 k.align-a.result.kept k.combined-n.result k.align-a.result.lost k.align-a.ensures k.combined-n.ensures in
+    let h = c.args.high in
+    let l = c.args.low in
+    let f = found_here h.scale h.significand l.scale l.significand (beq h.negative l.negative) c.requires.0 c.requires.1 c.requires.2 c.align-a.result.kept c.combined-n.result c.align-a.result.lost c.align-a.ensures c.combined-n.ensures in
     let N = total (beq h.negative l.negative) (magnitude h.scale h.significand) (magnitude l.scale l.significand) in
     let positive : 0 < N = lt_of_lt_of_le (mul-pos (omega arith) (pow_pos h.scale)) f.0.low in
     c.pack_wide.ensures (whole N) positive f.0
     ∙ sym (rounded_signed 2 31 packed_unit h.negative N positive)
-    ∙ ap (rounded 2 31 packed_unit) (sym (sum_total h.negative l.negative (magnitude h.scale h.significand) (magnitude l.scale l.significand) k.requires.2))
+    ∙ ap (rounded 2 31 packed_unit) (sym (sum_total h.negative l.negative (magnitude h.scale h.significand) (magnitude l.scale l.significand) c.requires.2))

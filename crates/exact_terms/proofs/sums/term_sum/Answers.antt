@@ -30,16 +30,14 @@ module _ (x y : Term) where
 
 pub sum_ordered-requires : goal.sum_ordered-requires
 sum_ordered-requires c =
-    let k = c in
-    let x = k.args.x in
-    let y = k.args.y in
-    subst₂ Ordered (sym c.chosen.ensures) (sym c.chosen-2.ensures) (ordered x y k.requires.0 k.requires.1 _ c.smaller-b.ensures)
+    let x = c.args.x in
+    let y = c.args.y in
+    subst₂ Ordered (sym c.chosen.ensures) (sym c.chosen-2.ensures) (ordered x y c.requires.0 c.requires.1 _ c.smaller-b.ensures)
 
 pub returns : goal.returns
 returns c =
-    let k = c in
-    let x = k.args.x in
-    let y = k.args.y in
+    let x = c.args.x in
+    let y = c.args.y in
     c.sum_ordered.ensures
     ∙ ap (rounded 2 31 packed_unit)
     (ap₂ (λ (h l : Term). worth h +ℤ worth l) c.chosen.ensures c.chosen-2.ensures ∙ same_sum x y c.smaller-b.result)

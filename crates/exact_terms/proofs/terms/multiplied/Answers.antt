@@ -14,21 +14,18 @@ up n d l c e h k = subst (Multiplied n d c) (sym (mod-eq_of_lt h)) (record { sam
 
 pub overflow_mul-n : goal.overflow_mul-n
 overflow_mul-n c =
-    let a = c in
-    record { fits = omega (arith, (product_bounds a.args.x.scale a.args.y.scale a.args.x.significand a.args.y.significand a.requires.0 a.requires.1).1) }
+    record { fits = omega (arith, (product_bounds c.args.x.scale c.args.y.scale c.args.x.significand c.args.y.significand c.requires.0 c.requires.1).1) }
 
 pub returns-then-n-lt2305843009213693952 : goal.returns-then-n-lt2305843009213693952
 returns-then-n-lt2305843009213693952 c =
-    let a = c in
-    let x = a.args.x in
-    let y = a.args.y in
-    let b = product_bounds x.scale y.scale x.significand y.significand a.requires.0 a.requires.1 in
+    let x = c.args.x in
+    let y = c.args.y in
+    let b = product_bounds x.scale y.scale x.significand y.significand c.requires.0 c.requires.1 in
     (refl, up (x.significand * y.significand) (x.scale + y.scale) 2 (x.scale + y.scale + 784) (omega arith) (omega arith) (omega arith))
 
 pub returns-else-n-lt2305843009213693952 : goal.returns-else-n-lt2305843009213693952
 returns-else-n-lt2305843009213693952 c =
-    let a = c in
-    let x = a.args.x in
-    let y = a.args.y in
-    let b = product_bounds x.scale y.scale x.significand y.significand a.requires.0 a.requires.1 in
+    let x = c.args.x in
+    let y = c.args.y in
+    let b = product_bounds x.scale y.scale x.significand y.significand c.requires.0 c.requires.1 in
     (refl, up (x.significand * y.significand) (x.scale + y.scale) 1 (x.scale + y.scale + 784 + 1) (omega arith) (omega arith) (omega arith))

@@ -14,10 +14,8 @@ overflow_add-result c = let s = c.scaled_of-s.ensures.of_real c.requires in reco
 
 pub returns : goal.returns
 returns c =
-    let k = c in
-    let a = k in
-    let s = k.scaled_of-s.result in
-    let is = k.scaled_of-s.ensures.of_real a.requires in
+    let s = c.scaled_of-s.result in
+    let is = c.scaled_of-s.ensures.of_real c.requires in
     let whole : s.significand * 2 ^ 32 % 2 ^ 64 ≡ s.significand * 2 ^ 32 = mod-eq_of_lt (omega arith) in
-    subst (IsTerm (exact 2 31 a.args.p) (is_negative 31 a.args.p) (s.scale + 904)) (sym whole)
-    (posit_term a.args.p s.scale s.significand (omega arith) a.requires k.scaled_of-s.ensures)
+    subst (IsTerm (exact 2 31 c.args.p) (is_negative 31 c.args.p) (s.scale + 904)) (sym whole)
+    (posit_term c.args.p s.scale s.significand (omega arith) c.requires c.scaled_of-s.ensures)

@@ -6,7 +6,6 @@ use Rattle.p32e2.proofs.P32E2.sub.Goals as goal
 
 pub returns : goal.returns
 returns c =
-    let k = c in
-    let p = k.args.self.0 in
-    let q = k.args.other.0 in
+    let p = c.args.self.0 in
+    let q = c.args.other.0 in
     c.add.ensures ∙ ap (sum 2 31 p) c.neg.ensures ∙ sym (difference_is 2 31 p q (omega arith))

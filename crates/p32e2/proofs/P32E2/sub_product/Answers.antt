@@ -6,8 +6,7 @@ use Rattle.p32e2.proofs.P32E2.sub_product.Goals as goal
 
 pub returns : goal.returns
 returns c =
-    let k = c in
-    let p = k.args.self.0 in
-    let q = k.args.a.0 in
-    let r = k.args.b.0 in
+    let p = c.args.self.0 in
+    let q = c.args.a.0 in
+    let r = c.args.b.0 in
     c.mul_add.ensures ∙ ap (λ (n : ℕ). fused_sum 2 31 n r p) c.neg.ensures ∙ sym (product_taken_is 2 31 p q r (omega arith))

@@ -9,10 +9,9 @@ overflow_add-result c = let x = c.scaled_of-x in record { fits = omega (arith, (
 
 pub returns : goal.returns
 returns c =
-    let k = c in
-    let p = k.args.p.0 in
-    let x = k.scaled_of-x.result in
-    let e = k.scaled_of-x.ensures in (
+    let p = c.args.p.0 in
+    let x = c.scaled_of-x.result in
+    let e = c.scaled_of-x.ensures in (
       (omega (arith, (scaled_below p x.scale x.significand e).0), posit_whole p x.scale x.significand (omega arith) e),
       posit_brought p x.scale x.significand (omega arith) e,
     )

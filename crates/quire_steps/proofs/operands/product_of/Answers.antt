@@ -25,12 +25,11 @@ overflow_mul-result c = record { fits = omega (arith, product_below _ _ _ _ _ _ 
 
 pub returns : goal.returns
 returns c =
-    let k = c in
-    let a = k.args.a.0 in
-    let b = k.args.b.0 in
-    let x = k.scaled_of-x.result in
-    let y = k.scaled_of-y.result in (
-      (omega (arith, scales_below _ _ _ _ _ _ c.scaled_of-x.ensures c.scaled_of-y.ensures), product_whole a b x.scale y.scale x.significand y.significand (omega arith) (omega arith) k.scaled_of-x.ensures k.scaled_of-y.ensures),
+    let a = c.args.a.0 in
+    let b = c.args.b.0 in
+    let x = c.scaled_of-x.result in
+    let y = c.scaled_of-y.result in (
+      (omega (arith, scales_below _ _ _ _ _ _ c.scaled_of-x.ensures c.scaled_of-y.ensures), product_whole a b x.scale y.scale x.significand y.significand (omega arith) (omega arith) c.scaled_of-x.ensures c.scaled_of-y.ensures),
       rw (c.either_nar.ensures, differ_is _ _)
-          (product_brought a b x.scale y.scale x.significand y.significand (omega arith) (omega arith) k.scaled_of-x.ensures k.scaled_of-y.ensures),
+          (product_brought a b x.scale y.scale x.significand y.significand (omega arith) (omega arith) c.scaled_of-x.ensures c.scaled_of-y.ensures),
     )

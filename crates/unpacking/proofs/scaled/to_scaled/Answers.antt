@@ -18,9 +18,8 @@ overflow_add-result c = record { fits = omega (arith, base_high c.args.b c.base_
 
 pub returns : goal.returns
 returns c =
-    let k = c in
-    let b = k.args.b in
-    let t = k.split-s.ensures.1 in (
-      ap₂ ◌+◌ k.base_of.ensures (ap (λ (x : ℕ). x / 2 ^ 30) t ∙ behind_exponent 2 31 b),
+    let b = c.args.b in
+    let t = c.split-s.ensures.1 in (
+      ap₂ ◌+◌ c.base_of.ensures (ap (λ (x : ℕ). x / 2 ^ 30) t ∙ behind_exponent 2 31 b),
       ap (λ (x : ℕ). 2 ^ 30 + x % 2 ^ 30) t ∙ ap (λ (x : ℕ). 2 ^ 30 + x) (behind_fraction 2 31 b),
     )
