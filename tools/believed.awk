@@ -73,6 +73,7 @@ function bring(text, place,    i, first, owner, specs) {
     sub(/^(package[.])?Rattle[.]/, "", owner)
     sub(/[.].*$/, "", owner)
     sub(/^.*[.]specs[.]/, "", specs)
+    if (item[1] != "" && used_path ~ /^(package[.])?Rattle([.][^.]+)?([.](specs|proofs))?$/) fault(place ": `" text "` brings modules in braces")
     for (i = 1; i <= items; i++) {
         name_of[++names] = known[i]
         name_at[names] = place

@@ -194,7 +194,7 @@ function parse_head(    i, attribute, no_mangle, as_c) {
         for (i += 2; i < words && head[i] != "]"; i++) attribute = attribute head[i]
         if (attribute ~ /^(unsafe[(]no_mangle[)]|no_mangle)$/) exported = no_mangle = 1
         else if (attribute ~ /^(unsafe[(])?export_name=/) exported = 1
-        else if (attribute !~ /^tactic[(]/ && attribute !~ /^derive[(]((Drop|Clone|Copy|PartialEq|Eq|Debug),?)+[)]$/) unread("the attribute `" attribute "`")
+        else if (attribute !~ /^tactic[(]/ && attribute !~ /^derive[(]((Drop|Clone|Copy),?)+[)]$/) unread("the attribute `" attribute "`")
     }
     if (head[i] == "pub") visible = "pub"
     if (head[i] == "pub" && head[++i] == "(") {
