@@ -12,7 +12,6 @@ function begin_file(    part) {
     sub(/[.](rt|antt)$/, "", file)
     gsub("/", ".", file)
     here = crate "/" file
-    program = index(programs " ", "crates/" crate "/src/main.rt ")
     now = ""
     names = statements = section = 0
     split("", imported)
@@ -183,9 +182,10 @@ function tell(text, place) {
     told_at[statements] = place
 }
 
-# ---- the code: clauses of public functions
+# ---- the code: clauses of public functions, and in a program those of its own
 function import_read(text) { bring(text, FILENAME ":" FNR) }
-function head_read() { if (public || program && visible == "crate") tell(clauses, at) }
+function head_read() { if (public || program && (visible == "crate" || trait)) tell(clauses, at) }
+function ghost_read(text) { if (kind == "ghost" || visible == "pub" || program && visible == "crate") tell(text, at) }
 function body_read() {}
 function item_read() { if (kind == "const") constant[name] = 1 }
 

@@ -54,7 +54,18 @@ function import_read(text) {
     brought[crate, module] = brought[crate, module] text "; "
 }
 
-function item_read() { if (crate in static) fault(at ": `" kind "` in a static library is not read here") }
+function item_read() {
+    if (crate in static) fault(at ": `" kind "` in a static library is not read here")
+    if (kind == "use") renames_read()
+}
+
+# a type under another name counts as one that holds it
+function renames_read(    i, other) {
+    for (i = 1; i < words; i++) if (head[i] == "as") {
+        other = crate "::" head[i + 1]
+        type_parts[other] = type_parts[other] head[i - 1] " "
+    }
+}
 
 function head_read(    place) {
     if (crate in static) { export_read(); return }
@@ -76,6 +87,29 @@ function head_read(    place) {
 function body_read() {
     if (crate in static) exported_code[e] = code
     else if (public) code_of[f] = code
+}
+
+# ---- ghost fields: whoever is handed a value of a type with one, or of a type that holds such a type, is owed what the field says
+
+function ghost_read(text) { if (kind == "struct") asking[crate "::" name] = 1 }
+
+# does a text of the code name a type of its crate that has or holds a ghost field?
+function names_asking(owner, text,    n, i, word) {
+    n = split(text, word, " ")
+    for (i = 1; i <= n; i++) if ((owner "::" word[i]) in asking) return 1
+    return 0
+}
+
+function judge_types(    t, more, owner) {
+    do {
+        more = 0
+        for (t in type_parts) {
+            owner = t
+            sub(/::.*$/, "", owner)
+            if (!(t in asking) && names_asking(owner, type_parts[t])) more = asking[t] = 1
+        }
+    } while (more)
+    for (t in asking) if (type_visible[t] == "pub") fault(t " asks callers for something: a public type has no ghost field, and holds none")
 }
 
 # ---- the exports
@@ -364,6 +398,7 @@ function judge_function(f,    theorem, contract, told_of) {
     contract = crate_of[f] "." path_of(f)
     of_a_function[contract] = 1
     judge_generated(f)
+    if (names_asking(crate_of[f], type_of[f] " " signature_of[f])) fault(f " asks its caller for something: it takes or gives a type that has or holds a ghost field")
     if (demand_stands && !(contract in answered)) fault(f " is not named in " demand)
     if ((f in for_c) && !(contract in promised)) fault(f " is exported to C, and no file of crates/promises/specs brings its contract")
     if ((f in for_c) && !((crate_of[f] "_c" substr(f, length(crate_of[f]) + 1)) in exports)) fault(f " is marked for C, and no static library exports it")
@@ -387,6 +422,7 @@ END {
     end_declarations()
     if (unproved != "") judge_proof("")
     judge_crates()
+    judge_types()
     demand_stands = stands(demand)
     if (!demand_stands) fault(demand ", which says that nothing is asked, is not there")
     for (t in stated_in) judge_statement(t)
