@@ -187,7 +187,7 @@ function import_read(text) { bring(text, FILENAME ":" FNR) }
 function head_read() { if (public || program && (visible == "crate" || trait)) tell(clauses, at) }
 function ghost_read(text) { if (kind == "ghost" || visible == "pub" || program && visible == "crate") tell(text, at) }
 function body_read() {}
-function item_read() { if (kind == "const") constant[name] = 1 }
+function item_read() { if (kind ~ /^(const|static)$/) constant[name] = 1 }
 
 function beginning(text,    n, i, word, out) {
     n = split(text, word, " ")

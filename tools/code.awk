@@ -190,7 +190,7 @@ function take_in_ghost_field(token) {
     if (ghost_field ~ /[}] $/ && token == ",") { ghost_field = ""; return }
     ghost_field = ghost_field token " "
     if (ghost_field ~ /^ghost [a-z_][A-Za-z0-9_]* : [{] $/) begin_antt("}", 1)
-    else if (ghost_field !~ /^ghost ([a-z_][A-Za-z0-9_]* (: )?)?$/ || token == "ghost" && (kind != "struct" || depth != 1 || last_token !~ /^,?$/)) {
+    else if (ghost_field !~ /^ghost ([a-z_][A-Za-z0-9_]* (: )?)?$/ || token == "ghost" && (kind != "struct" || last_token !~ /^,?$/)) {
         unread("`" token "`" (token == "ghost" ? "" : " of a `ghost`") " inside a type")
         ghost_field = ""
     }
@@ -253,8 +253,11 @@ function parse_head(    i, attribute, no_mangle, as_c) {
     kind = head[i]
     name = head[i + 1]
     after_name = i + 2
-    if (kind ~ /^(struct|enum|use|mod|type)$/ || kind == "const" && head[after_name] == ":") for (; i <= words; i++) if (head[i] == "fn") kind = "fn in another place"
+    if (kind ~ /^(struct|enum|use|mod)$/ || is_constant()) for (; i <= words; i++) if (head[i] == "fn") kind = "fn in another place"
 }
+
+# `const NAME: ..`, or the crate's own `static NAME: ..`
+function is_constant() { return (kind == "const" || kind == "static" && !public) && head[after_name] == ":" }
 
 function head_opens() {
     parse_head()
@@ -264,7 +267,7 @@ function head_opens() {
         judge_signature()
         head_read()
         open_block("function")
-    } else if (kind == "use" || kind == "const" && head[after_name] == ":") nested++
+    } else if (kind == "use" || is_constant()) nested++
     else if (kind == "ghost" && trait && words == 4 && head[3] == "=") begin_antt("}", 1)
     else if (kind == "struct" || kind == "enum") {
         declare()
@@ -305,7 +308,7 @@ function head_ends() {
     parse_head()
     if (kind == "struct") declare()
     else if (kind == "use" && visible == "pub" && (head[words - 2] != ":" || head[words - 1] !~ /^[A-Z]/)) unread("`" head_text(12) "`, which may bring a function out,")
-    else if (!(kind == "use" || kind == "mod" && head[after_name] == ";" || kind == "const" && head[after_name] == ":" ||
+    else if (!(kind == "use" || kind == "mod" && head[after_name] == ";" || is_constant() ||
             trait && (kind == "type" && head[after_name] == "=" || kind == "ghost" && head[4] == "{" && words == 5))) unread("`" head_text(12) "`")
     if (kind !~ /^(mod|ghost)$/) item_read()
     words = 0
