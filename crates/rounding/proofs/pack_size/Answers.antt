@@ -7,13 +7,13 @@ use Rattle.posit.proofs.Packing.{from_digits}
 use Rattle.rounding.proofs.pack_size.Goals as goal
 
 -- the run is of ones from 1024 on
-between : (c F m : ℕ) (s : Bool) → 904 ≤ c → c < 1144 → (c < 1024 → m ≡ 255 - c / 4) → (1024 ≤ c → m ≡ c / 4 - 256)
-    → from_digits (leb 1024 c) m (c % 4 * 2 ^ 61 + F) s ≡ packing c F s
-between c F m s h k f g = go (dec_lt c 1024)
+between : (c F m : ℕ) (o s : Bool) → o ≡ leb 1024 c → 904 ≤ c → c < 1144 → (c < 1024 → m ≡ 255 - c / 4) → (1024 ≤ c → m ≡ c / 4 - 256)
+    → from_digits o m (c % 4 * 2 ^ 61 + F) s ≡ packing c F s
+between c F m o s e h k f g = go (dec_lt c 1024)
   where
-    go : Dec (c < 1024) → from_digits (leb 1024 c) m (c % 4 * 2 ^ 61 + F) s ≡ packing c F s
-    go (yes i) = rw (lt-leb 1024 c i, f i) (sym (packing_zeros c F s h i))
-    go (no i) = rw (le-leb 1024 c (omega arith), g (omega arith)) (sym (packing_ones c F s (omega arith) k))
+    go : Dec (c < 1024) → from_digits o m (c % 4 * 2 ^ 61 + F) s ≡ packing c F s
+    go (yes i) = rw (e, lt-leb 1024 c i, f i) (sym (packing_zeros c F s h i))
+    go (no i) = rw (e, le-leb 1024 c (omega arith), g (omega arith)) (sym (packing_ones c F s (omega arith) k))
 
 pub returns-then-scale-lt904 : goal.returns-then-scale-lt904
 returns-then-scale-lt904 c = let a = c.args in sym (pack_size_is a.scale a.fraction a.sticky ∙ packing_tiny a.scale _ a.sticky (omega arith))
@@ -26,5 +26,5 @@ returns-then-scale-ge1144 c =
 pub returns : goal.returns
 returns c =
     let a = c.args in
-    let r = c.run_less.ensures in
-    c.from_digits.ensures ∙ between a.scale _ _ a.sticky (omega arith) (omega arith) r.1 r.2 ∙ sym (pack_size_is a.scale a.fraction a.sticky)
+    let r = c.of.ensures in
+    c.followed_by.ensures ∙ between a.scale _ _ _ a.sticky r.0 (omega arith) (omega arith) r.1 r.2 ∙ sym (pack_size_is a.scale a.fraction a.sticky)

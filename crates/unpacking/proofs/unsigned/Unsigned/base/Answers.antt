@@ -1,9 +1,9 @@
--- `base_of` meets its contract: the first digit tells of what the run is made, and its length the regime. Not all 31 digits are zeros, since b is not 0.
+-- `Unsigned::base` meets its contract: the first digit tells of what the run is made, and its length the regime. Not all 31 digits are zeros, since b is not 0.
 use Rattle.std.proofs.Common.{◌≡◌, ℕ, zero, suc, ◌+◌, ◌-◌, ◌*◌, ◌^◌, ◌<◌, ◌≤◌, true, false, pos, neg_ℤ, nat_abs, refl, ap, ◌∙◌, arith}
 use Rattle.posit.specs.Pattern.{Positive, first, run, regime, regime_of, raised, least}
 use Rattle.posit.proofs.Word.{run_le, run_positive, first_is}
 use Rattle.posit.proofs.Unsigned.{regime_small}
-use Rattle.unpacking.proofs.scaled.base_of.Goals as goal
+use Rattle.unpacking.proofs.unsigned.Unsigned.base.Goals as goal
 
 zeros_base : (m : ℕ) → m < 31 → 4 * (30 - m) ≡ raised 2 (least 2 31) (neg_ℤ (pos m))
 zeros_base zero h = refl
@@ -31,19 +31,19 @@ module _ (b m : ℕ) (k : Positive 31 b) (is : m ≡ run (first 31 b) 31 b) wher
   short h = zeros_short m (rw (of_zeros h) (regime_small 31 b k))
 
 pub overflow_sub-result : goal.overflow_sub-result
-overflow_sub-result c = let k = short _ _ c.requires.0 c.requires.1 (omega arith) in omega arith
+overflow_sub-result c = let k = short _ _ c.args.self.positive c.requires (omega arith) in omega arith
 
 pub overflow_add-result : goal.overflow_add-result
-overflow_add-result c = let k = some _ _ c.requires.0 c.requires.1 in omega arith
+overflow_add-result c = let k = some _ _ c.args.self.positive c.requires in omega arith
 
-pub returns-then-b-lt1073741824 : goal.returns-then-b-lt1073741824
-returns-then-b-lt1073741824 c =
+pub returns-then-self-lt1073741824 : goal.returns-then-self-lt1073741824
+returns-then-self-lt1073741824 c =
     let a = c.args in
-    zeros_base a.m (short _ _ c.requires.0 c.requires.1 (omega arith)) ∙ ap (raised 2 (least 2 31)) (of_zeros _ _ c.requires.0 c.requires.1 (omega arith))
+    zeros_base a.m (short _ _ c.args.self.positive c.requires (omega arith)) ∙ ap (raised 2 (least 2 31)) (of_zeros _ _ c.args.self.positive c.requires (omega arith))
 
-pub returns-else-b-lt1073741824 : goal.returns-else-b-lt1073741824
-returns-else-b-lt1073741824 c =
+pub returns-else-self-lt1073741824 : goal.returns-else-self-lt1073741824
+returns-else-self-lt1073741824 c =
     let a = c.args in
-    let k = some _ _ c.requires.0 c.requires.1 in
+    let k = some _ _ c.args.self.positive c.requires in
     let base : 4 * (29 + a.m) ≡ raised 2 (least 2 31) (pos (a.m - 1)) = omega arith in
-    base ∙ ap (raised 2 (least 2 31)) (of_ones _ _ c.requires.0 c.requires.1 (omega arith))
+    base ∙ ap (raised 2 (least 2 31)) (of_ones _ _ c.args.self.positive c.requires (omega arith))
