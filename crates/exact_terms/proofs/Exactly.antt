@@ -2,11 +2,12 @@
 -- significands tell of the values (`value_scaled`, `product_scaled`) is moved to these units.
 use mathlib.Core.Path.{◌≡◌, sym, ap, ap₂, ◌∙◌}
 use mathlib.Core.Bool.{Bool, false, xor}
+use mathlib.Core.Logic.{◌⊎◌, inl, inr}
 use Prim.Native.Nat.{ℕ, ◌+◌, ◌*◌, ◌/◌, ◌%◌, ◌^◌, ◌≤◌, ◌<◌, ◌-◌}
 use native.Mathlib.Nat.{mul-le-mul_left, mul-le-mul_right, mul-lt-mul_of_pos_right, lt_of_le_of_lt, le_trans, le_of_lt, mul-pos}
 use native.Mathlib.Omega.{arith}
 use lib.Dec.{lit<, lit≤}
-use lib.IntN.{ℤ, ◌+ℤ◌}
+use lib.IntN.{ℤ, pos, ◌+ℤ◌}
 use lib.Pow.{pow_pos}
 use Rattle.posit.specs.Pattern.{is_negative, unit}
 use Rattle.posit.specs.Exact.{whole}
@@ -15,6 +16,7 @@ use Rattle.posit.specs.Operation.{exact, exact_product}
 use Rattle.posit.proofs.Arith.{same_power}
 use Rattle.posit.proofs.Signs.{with_sign}
 use Rattle.posit.proofs.Unsigned.{value_unit}
+use Rattle.posit.proofs.Operation.{product_zero_left, product_zero_right}
 use Rattle.posit.proofs.Finer.{rounded_finer, sum_finer}
 use Rattle.posit.proofs.Value.{rounded_signed}
 use Rattle.rounding.specs.Packed.{packed_size, packed_unit}
@@ -27,14 +29,9 @@ use Rattle.rounding.proofs.Terms.{Normal, IsTerm, Multiplied, finer_by}
 pub posit_term : (p c g : ℕ) → p < 2 ^ 32 → Real p → IsScaled p c g → IsTerm (exact 2 31 p) (is_negative 31 p) (c + 904) (g * 2 ^ 32)
 unfolding exact
 posit_term p c g short real s =
-    let in_scale = (s.of_real real).in_scale in
-    record {
-      is =
-          sym (value_unit 2 31 p (unit 2 31) finer_by short real.1 (lit≤ tt))
-          ∙ value_scaled p c g short real.1 s (packed_unit - scaled_unit)
-          ∙ ap (with_sign (is_negative 31 p)) (same_power g c (packed_unit - scaled_unit) 32 (c + 904) (omega arith));
-      normal = omega arith;
-    }
+    sym (value_unit 2 31 p (unit 2 31) finer_by short real.1 (lit≤ tt))
+    ∙ value_scaled p c g short real.1 s (packed_unit - scaled_unit)
+    ∙ ap (with_sign (is_negative 31 p)) (same_power g c (packed_unit - scaled_unit) 32 (c + 904) (omega arith))
 
 -- ---- a product
 
@@ -47,10 +44,11 @@ product_bounds c d g h x y = (
 pub product_term : (a b c d g h : ℕ) → a < 2 ^ 32 → b < 2 ^ 32 → Real a → Real b → IsScaled a c g → IsScaled b d h
     → (e n : ℕ) → Multiplied (g * h) (c + d) e n → IsTerm (exact_product 2 31 a b) (xor (is_negative 31 a) (is_negative 31 b)) e n
 product_term a b c d g h short short' ra rb sa sb e n m =
-    record {
-      is = product_scaled a b c d g h short short' ra.1 rb.1 sa sb (finer_by - 60) ∙ ap (with_sign (xor (is_negative 31 a) (is_negative 31 b))) (sym m.same);
-      normal = m.normal;
-    }
+    product_scaled a b c d g h short short' ra.1 rb.1 sa sb (finer_by - 60) ∙ ap (with_sign (xor (is_negative 31 a) (is_negative 31 b))) (sym m)
+
+pub product_none : (p q : ℕ) → (p ≡ 0) ⊎ (q ≡ 0) → exact_product 2 31 p q ≡ pos 0
+product_none p q (inl z) = ap (λ (n : ℕ). exact_product 2 31 n q) z ∙ product_zero_left 2 31 q
+product_none p q (inr z) = ap (exact_product 2 31 p) z ∙ product_zero_right 2 31 p
 
 -- ---- a term, rounded
 
@@ -65,8 +63,8 @@ term_rounded s c g n =
 
 module _ (x : ℤ) (s : Bool) (c g : ℕ) (is_x : IsTerm x s c g) where
   pub term_alone : rounded 2 31 (unit 2 31) x ≡ rounded 2 31 packed_unit (with_sign s (g * 2 ^ c))
-  term_alone = rounded_finer 2 31 (unit 2 31) finer_by (lit≤ tt) x ∙ ap (rounded 2 31 packed_unit) is_x.is
+  term_alone = rounded_finer 2 31 (unit 2 31) finer_by (lit≤ tt) x ∙ ap (rounded 2 31 packed_unit) is_x
 
   pub terms_sum : (y : ℤ) (t : Bool) (d h : ℕ) → IsTerm y t d h
       → rounded 2 31 (unit 2 31) (x +ℤ y) ≡ rounded 2 31 packed_unit (with_sign s (g * 2 ^ c) +ℤ with_sign t (h * 2 ^ d))
-  terms_sum y t d h is_y = sum_finer 2 31 (unit 2 31) finer_by (lit≤ tt) x y ∙ ap₂ (λ u v. rounded 2 31 packed_unit (u +ℤ v)) is_x.is is_y.is
+  terms_sum y t d h is_y = sum_finer 2 31 (unit 2 31) finer_by (lit≤ tt) x y ∙ ap₂ (λ u v. rounded 2 31 packed_unit (u +ℤ v)) is_x is_y

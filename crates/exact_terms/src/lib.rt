@@ -7,9 +7,7 @@ mod terms; // terms.rt: posits and products as exact terms
 ghost use Rattle.std.specs.Prelude.{◌≡◌};
 ghost use Rattle.posit.specs.Operation.{sum, product, fused_sum};
 
-use sums::term_sum;
-use terms::{pack_term, term_of, term_product};
-use unpacking::scaled::scaled_of;
+use terms::Operand;
 use unpacking::{NAR, either_nar};
 
 pub fn add(p: u32, q: u32) -> u32
@@ -24,7 +22,7 @@ pub fn add(p: u32, q: u32) -> u32
     if q == 0 {
         return p;
     }
-    term_sum(term_of(p), term_of(q))
+    Operand::of(p).term().plus(Operand::of(q).term())
 }
 
 pub fn mul(p: u32, q: u32) -> u32
@@ -33,34 +31,25 @@ pub fn mul(p: u32, q: u32) -> u32
     if either_nar(p, q) {
         return NAR;
     }
-    if p == 0 {
+    if p == 0 || q == 0 {
         return 0;
     }
-    if q == 0 {
-        return 0;
-    }
-    pack_term(term_product(p, q, scaled_of(p), scaled_of(q)))
+    Operand::of(p).times(Operand::of(q)).rounded()
 }
 
 // p·q + s
 pub fn mul_add(p: u32, q: u32, s: u32) -> u32
     ensures { result ≡ fused_sum 2 31 p q s }
 {
-    if either_nar(p, q) {
+    if either_nar(p, q) || s == NAR {
         return NAR;
     }
-    if s == NAR {
-        return NAR;
-    }
-    if p == 0 {
+    if p == 0 || q == 0 {
         return s;
     }
-    if q == 0 {
-        return s;
-    }
-    let t = term_product(p, q, scaled_of(p), scaled_of(q));
+    let t = Operand::of(p).times(Operand::of(q));
     if s == 0 {
-        return pack_term(t);
+        return t.rounded();
     }
-    term_sum(t, term_of(s))
+    t.plus(Operand::of(s).term())
 }

@@ -1,88 +1,74 @@
 // The sum of two exact terms, rounded once: align, add or subtract, normalise.
-ghost use Rattle.std.specs.Prelude.{◌≡◌, true, cond, ◌+◌, ◌-◌, ◌/◌, ◌%◌, ◌^◌, ◌≤◌, ◌<◌, ltb, ◌+ℤ◌};
+ghost use Rattle.std.specs.Prelude.{◌≡◌, true, ◌+◌, ◌-◌, ◌/◌, ◌%◌, ◌^◌, ◌≤◌, ◌<◌, ltb, ◌+ℤ◌};
 ghost use Rattle.posit.specs.Exact.{Exact, Sound};
 ghost use Rattle.posit.specs.Rounding.{round, rounded, signed};
 ghost use Rattle.posit.proofs.Compare.{Counts};
 ghost use Rattle.rounding.specs.Packed.{packed_unit};
 ghost use mir.Val.{bool_byte};
-ghost use Rattle.rounding.proofs.Terms.{Normal, magnitude, term, combine};
+ghost use Rattle.rounding.proofs.Terms.{magnitude, term, combine};
 
 use super::terms::Term;
 use rounding::pack;
-
-pub(crate) fn term_sum(x: Term, y: Term) -> u32
-    requires { Normal x.scale x.significand × Normal y.scale y.significand }
-    ensures { result ≡ rounded 2 31 packed_unit (term x.negative x.scale x.significand +ℤ term y.negative y.scale y.significand) }
-{
-    let b = smaller(x, y);
-    sum_ordered(chosen(b, y, x), chosen(b, x, y))
-}
-
-// To choose the terms, and not what to call, leaves no branch.
-fn chosen(first: bool, x: Term, y: Term) -> Term
-    ensures { result ≡ cond first x y }
-{
-    if first { x } else { y }
-}
-
-// Whether x is the smaller of the two without their signs.
-fn smaller(x: Term, y: Term) -> bool
-    requires { Normal x.scale x.significand × Normal y.scale y.significand }
-    ensures { result ≡ ltb (magnitude x.scale x.significand) (magnitude y.scale y.significand) }
-{
-    if x.scale == y.scale {
-        x.significand < y.significand
-    } else {
-        x.scale < y.scale
-    }
-}
-
-// The sum has the sign of the greater term, high. The digits of low that fall below the last one of high are lost to the sticky bit.
-fn sum_ordered(high: Term, low: Term) -> u32
-    requires { Normal high.scale high.significand × Normal low.scale low.significand × (magnitude low.scale low.significand ≤ magnitude high.scale high.significand) }
-    ensures { result ≡ rounded 2 31 packed_unit (term high.negative high.scale high.significand +ℤ term low.negative low.scale low.significand) }
-{
-    let a = align(low.significand, high.scale - low.scale);
-    let n = combined(
-        high.negative == low.negative,
-        high.significand,
-        a.kept,
-        a.lost,
-    );
-    if n == 0 {
-        return 0;
-    }
-    pack_wide(high.negative, high.scale, n, a.lost)
-}
+use std::hint::select_unpredictable;
 
 // What stays of a significand that is moved down, and whether anything was lost.
-#[derive(Drop)]
+#[derive(Clone, Copy)]
 struct Aligned {
     kept: u64,
     lost: bool,
 }
 
-// From 63 digits on nothing stays.
-fn align(g: u64, d: u32) -> Aligned
-    requires { g < 2 ^ 63 }
-    ensures { (result.kept ≡ g / 2 ^ d) × (result.lost ≡ ltb 0 (g % 2 ^ d)) }
-{
-    let s = if d < 63 { d } else { 63 };
-    Aligned {
-        kept: g >> s,
-        lost: 0 < g % (1 << s),
+impl Term {
+    // The sum, rounded. To choose the terms, and not what to call, leaves no branch.
+    pub(crate) fn plus(self, other: Term) -> u32
+        ensures { result ≡ rounded 2 31 packed_unit (term self.negative self.scale self.significand +ℤ term other.negative other.scale other.significand) }
+    {
+        let b = self.is_smaller(other);
+        let high = select_unpredictable(b, other, self);
+        high.plus_smaller(select_unpredictable(b, self, other))
     }
-}
 
-// What is lost of a number that is taken makes the difference one less, and something above it.
-fn combined(same: bool, g: u64, kept: u64, lost: bool) -> u64
-    requires { (kept + bool_byte lost ≤ g) × (g < 2 ^ 63) }
-    ensures { result ≡ combine same g kept lost }
-{
-    if same {
-        g + kept
-    } else {
-        g - kept - lost as u64
+    // Whether it is the smaller of the two without their signs.
+    fn is_smaller(self, other: Term) -> bool
+        ensures { result ≡ ltb (magnitude self.scale self.significand) (magnitude other.scale other.significand) }
+    {
+        (self.scale, self.significand) < (other.scale, other.significand)
+    }
+
+    // The sum has the sign of the greater term. The digits of low that fall below its last one are lost to the sticky bit.
+    fn plus_smaller(self, low: Term) -> u32
+        requires { magnitude low.scale low.significand ≤ magnitude self.scale self.significand }
+        ensures { result ≡ rounded 2 31 packed_unit (term self.negative self.scale self.significand +ℤ term low.negative low.scale low.significand) }
+    {
+        let a = low.aligned(self.scale - low.scale);
+        let n = self.combined(self.negative == low.negative, a);
+        if n == 0 {
+            return 0;
+        }
+        pack_wide(self.negative, self.scale, n, a.lost)
+    }
+
+    // The significand moved down by d digits. From 63 on nothing stays.
+    fn aligned(self, d: u32) -> Aligned
+        ensures { (result.kept ≡ self.significand / 2 ^ d) × (result.lost ≡ ltb 0 (self.significand % 2 ^ d)) }
+    {
+        let s = d.min(63);
+        Aligned {
+            kept: self.significand >> s,
+            lost: 0 < self.significand % (1 << s),
+        }
+    }
+
+    // What is lost of a number that is taken makes the difference one less, and something above it.
+    fn combined(self, same: bool, low: Aligned) -> u64
+        requires { low.kept + bool_byte low.lost ≤ self.significand }
+        ensures { result ≡ combine same self.significand low.kept low.lost }
+    {
+        if same {
+            self.significand + low.kept
+        } else {
+            self.significand - low.kept - low.lost as u64
+        }
     }
 }
 
@@ -91,7 +77,7 @@ fn pack_wide(negative: bool, scale: u32, n: u64, sticky: bool) -> u32
     requires { (0 < n) × (sticky ≡ true → 2 ^ 61 ≤ n) × (64 ≤ scale) × (scale < 2000) }
     ensures { (x : Exact) → Sound x → Counts x n (2 ^ scale) sticky → result ≡ signed 31 negative (round 2 31 packed_unit x) }
 {
-    let z = u64::leading_zeros(n);
+    let z = n.leading_zeros();
     let m = n << z;
     pack(negative, scale + 1 - z, m >> 2, 0 < m % 4 + sticky as u64)
 }

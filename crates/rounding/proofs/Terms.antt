@@ -25,14 +25,12 @@ abbrev pub term : Bool → ℕ → ℕ → ℤ
 term negative c g = with_sign negative (magnitude c g)
 
 -- x, a number of units of 2 ^ - unit, is this term
-pub record IsTerm (x : ℤ) (negative : Bool) (c g : ℕ) : Type 0 where
-  pub is : x *ℤ pos (2 ^ finer_by) ≡ term negative c g
-  pub normal : Normal c g
+abbrev pub IsTerm : ℤ → Bool → ℕ → ℕ → Type 0
+IsTerm x negative c g = x *ℤ pos (2 ^ finer_by) ≡ term negative c g
 
--- The product n of two significands, at the sum d of their scales, is this term. It has 60 digits below 2 ^ - unit, 30 of each.
-pub record Multiplied (n d c g : ℕ) : Type 0 where
-  pub same : magnitude c g ≡ n * 2 ^ d * 2 ^ (finer_by - 60)
-  pub normal : Normal c g
+-- The product n of two significands, at the sum d of their scales, has this magnitude. It has 60 digits below 2 ^ - unit, 30 of each.
+abbrev pub Multiplied : ℕ → ℕ → ℕ → ℕ → Type 0
+Multiplied n d c g = magnitude c g ≡ n * 2 ^ d * 2 ^ (finer_by - 60)
 
 -- the digits of a sum or a difference
 abbrev pub combine : Bool → ℕ → ℕ → Bool → ℕ

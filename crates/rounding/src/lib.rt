@@ -33,7 +33,7 @@ fn pack_size(scale: u32, fraction: u64, sticky: bool) -> u32
 }
 
 // The run of a regime, of ones or of zeros, and its end: as long as leaves room for a digit behind it.
-#[derive(Drop)]
+#[derive(Clone, Copy)]
 struct Run {
     ones: bool,
     // one less than its length

@@ -5,7 +5,8 @@ use native.Mathlib.Omega.{arith}
 use lib.Dec.{lit<}
 use lib.IntN.{◌+ℤ◌}
 use Rattle.posit.specs.Operation.{exact, rounded_here}
-use Rattle.posit.proofs.Operation.{neither_nar, sum_nar, sum_real, exact_zero, zero_plus, plus_zero, own}
+use Rattle.posit.proofs.Operation.{sum_nar, sum_real, exact_zero, zero_plus, plus_zero, own}
+use Rattle.unpacking.proofs.Either.{neither}
 use Rattle.exact_terms.proofs.Exactly.{terms_sum}
 use Rattle.exact_terms.proofs.add.Goals as goal
 
@@ -16,14 +17,14 @@ returns-then-either_nar c =
 
 pub returns-then-p-eq0 : goal.returns-then-p-eq0
 returns-then-p-eq0 c =
-    let k = neither_nar 2 31 c.args.p c.args.q (sym c.either_nar.ensures ∙ c.if-either_nar.false) in
+    let k = neither c.either_nar.ensures c.if-either_nar.false in
     let p = c.args.p in
     let q = c.args.q in
     sym (sum_real 2 31 p q k.0 k.1 ∙ zero_plus 2 31 (lit< tt) (ap (exact 2 31) c.if-p-eq0.true ∙ exact_zero 2 31) q (omega arith) k.1)
 
 pub returns-then-q-eq0 : goal.returns-then-q-eq0
 returns-then-q-eq0 c =
-    let k = neither_nar 2 31 c.args.p c.args.q (sym c.either_nar.ensures ∙ c.if-either_nar.false) in
+    let k = neither c.either_nar.ensures c.if-either_nar.false in
     let p = c.args.p in
     let q = c.args.q in
     sym
@@ -32,20 +33,19 @@ returns-then-q-eq0 c =
     ∙ plus_zero 2 31 (exact 2 31 p)
     ∙ own 2 31 (lit< tt) p (omega arith) k.0)
 
-pub term_of-requires : goal.term_of-requires
-term_of-requires c = (c.if-p-eq0.false, (neither_nar 2 31 c.args.p c.args.q (sym c.either_nar.ensures ∙ c.if-either_nar.false)).0)
+pub of-requires : goal.of-requires
+of-requires c = (c.if-p-eq0.false, (neither c.either_nar.ensures c.if-either_nar.false).0)
 
-pub term_of-requires-2 : goal.term_of-requires-2
-term_of-requires-2 c = (c.if-q-eq0.false, (neither_nar 2 31 c.args.p c.args.q (sym c.either_nar.ensures ∙ c.if-either_nar.false)).1)
+pub of-requires-2 : goal.of-requires-2
+of-requires-2 c = (c.if-q-eq0.false, (neither c.either_nar.ensures c.if-either_nar.false).1)
 
 pub returns : goal.returns
 returns c =
-    let k = neither_nar 2 31 c.args.p c.args.q (sym c.either_nar.ensures ∙ c.if-either_nar.false) in
-    let p = c.args.p in
-    let q = c.args.q in
-    let x = c.term_of.result in
-    let y = c.term_of-2.result in
-    c.term_sum.ensures
+    let k = neither c.either_nar.ensures c.if-either_nar.false in
+    let x = c.term.result in
+    let y = c.term-2.result in
+    c.plus.ensures
     ∙ sym
-    (sum_real 2 31 p q k.0 k.1
-    ∙ terms_sum (exact 2 31 p) x.negative x.scale x.significand c.term_of.ensures (exact 2 31 q) y.negative y.scale y.significand c.term_of-2.ensures)
+    (sum_real 2 31 c.args.p c.args.q k.0 k.1
+    ∙ terms_sum (exact 2 31 c.args.p) x.negative x.scale x.significand (rw c.of.ensures at c.term.ensures)
+        (exact 2 31 c.args.q) y.negative y.scale y.significand (rw c.of-2.ensures at c.term-2.ensures))

@@ -1,12 +1,15 @@
 -- `mul` meets its contract: NaR and zero operands by the laws of the product, and else the exact product, rounded.
 use mathlib.Core.Path.{◌≡◌, sym, ap, ◌∙◌}
+use mathlib.Core.Logic.{inl, inr}
 use Prim.Native.Nat.{ℕ}
 use lib.IntN.{ℤ, pos}
 use Rattle.posit.specs.Rounding.{rounded}
 use Rattle.posit.specs.Operation.{exact_product, rounded_here}
-use Rattle.posit.proofs.Operation.{neither_nar, product_nar, product_real, product_zero_left, product_zero_right}
-use Rattle.exact_terms.proofs.Exactly.{term_alone}
+use Rattle.posit.proofs.Operation.{product_nar, product_real}
+use Rattle.unpacking.proofs.Either.{neither}
+use Rattle.exact_terms.proofs.Exactly.{product_none, term_alone}
 use Rattle.exact_terms.proofs.mul.Goals as goal
+use Rattle.exact_terms.proofs.mul.Goals.{then-p-eq0-via-then-p-eq0, then-p-eq0-via-else-p-eq0+then-q-eq0}
 
 zero_rounded : {z : ℤ} → z ≡ pos 0 → rounded_here 2 31 z ≡ 0
 unfolding rounded
@@ -19,30 +22,23 @@ returns-then-either_nar c =
 
 pub returns-then-p-eq0 : goal.returns-then-p-eq0
 returns-then-p-eq0 c =
-    let k = neither_nar 2 31 c.args.p c.args.q (sym c.either_nar.ensures ∙ c.if-either_nar.false) in
+    let k = neither c.either_nar.ensures c.if-either_nar.false in
     let p = c.args.p in
     let q = c.args.q in
-    sym (product_real 2 31 p q k.0 k.1 ∙ zero_rounded (ap (λ (z : ℕ). exact_product 2 31 z q) c.if-p-eq0.true ∙ product_zero_left 2 31 q))
+    let none = product_none p q (elim c.then-p-eq0.branch [ then-p-eq0-via-then-p-eq0 w ↦ inl w.if-p-eq0.true | then-p-eq0-via-else-p-eq0+then-q-eq0 w ↦ inr w.if-q-eq0.true ]) in
+    sym (product_real 2 31 p q k.0 k.1 ∙ zero_rounded none)
 
-pub returns-then-q-eq0 : goal.returns-then-q-eq0
-returns-then-q-eq0 c =
-    let k = neither_nar 2 31 c.args.p c.args.q (sym c.either_nar.ensures ∙ c.if-either_nar.false) in
-    let p = c.args.p in
-    let q = c.args.q in
-    sym (product_real 2 31 p q k.0 k.1 ∙ zero_rounded (ap (exact_product 2 31 p) c.if-q-eq0.true ∙ product_zero_right 2 31 p))
+pub of-requires : goal.of-requires
+of-requires c = (c.if-p-eq0.false, (neither c.either_nar.ensures c.if-either_nar.false).0)
 
-pub term_product-requires : goal.term_product-requires
-term_product-requires c =
-    let k = neither_nar 2 31 c.args.p c.args.q (sym c.either_nar.ensures ∙ c.if-either_nar.false) in
-    ((c.if-p-eq0.false, k.0), (c.if-q-eq0.false, k.1), c.scaled_of.ensures, c.scaled_of-2.ensures)
+pub of-requires-2 : goal.of-requires-2
+of-requires-2 c = (c.if-q-eq0.false, (neither c.either_nar.ensures c.if-either_nar.false).1)
 
 pub returns : goal.returns
 returns c =
-    let k = neither_nar 2 31 c.args.p c.args.q (sym c.either_nar.ensures ∙ c.if-either_nar.false) in
+    let k = neither c.either_nar.ensures c.if-either_nar.false in
     let p = c.args.p in
     let q = c.args.q in
-    let t = c.term_product.result in
-    c.pack_term.ensures
-    ∙ sym
-    (product_real 2 31 p q k.0 k.1
-    ∙ term_alone (exact_product 2 31 p q) t.negative t.scale t.significand c.term_product.ensures)
+    let t = c.times.result in
+    c.rounded.ensures
+    ∙ sym (product_real 2 31 p q k.0 k.1 ∙ term_alone (exact_product 2 31 p q) t.negative t.scale t.significand (rw (c.of.ensures, c.of-2.ensures) at c.times.ensures))
