@@ -12,7 +12,7 @@ ghost use Rattle.unpacking.specs.Unpacked.{meaning};
 
 pub use unpacking::Unpacked;
 
-#[derive(Clone, Copy)]
+#[derive(Clone, Copy, Debug, PartialEq, Eq)]
 pub struct P32E2(pub u32);
 
 impl P32E2 {
@@ -43,13 +43,13 @@ impl P32E2 {
     pub fn is_zero(self) -> bool
         ensures { result ≡ (self.0 == 0) }
     {
-        self.0 == P32E2::ZERO.0
+        self == P32E2::ZERO
     }
 
     pub fn is_nar(self) -> bool
         ensures { result ≡ (self.0 == nar 31) }
     {
-        self.0 == P32E2::NAR.0
+        self == P32E2::NAR
     }
 
     pub fn recip(self) -> P32E2

@@ -9,7 +9,7 @@ impl P32E2 {
     pub fn neg(self) -> P32E2
         ensures { result.0 ≡ opposite 31 self.0 }
     {
-        P32E2(std::num::wrapping_sub_u32(0, self.0))
+        P32E2(0u32.wrapping_sub(self.0))
     }
 
     pub fn add(self, other: P32E2) -> P32E2

@@ -38,58 +38,58 @@ fn root_of(n: u64) -> u64
     r
 }
 
-// Lines near 1/√x, for x in steps of 1/32 from 1/4 to 1. The upper half of an answer is the height where the step i begins, in units of 2^-15; the lower
-// half is how far the line falls within the step, in units of 2^-18.
-fn line_of(i: u64) -> u32 {
-    match i {
-        8 => 0xFFD7_7521,
-        9 => 0xF13D_6316,
-        10 => 0xE4E1_553F,
-        11 => 0xDA3E_4A5B,
-        12 => 0xD0F6_419A,
-        13 => 0xC8C6_3A71,
-        14 => 0xC17A_347F,
-        15 => 0xBAEC_2F7E,
-        16 => 0xB4FD_2B3D,
-        17 => 0xAF97_2795,
-        18 => 0xAAA5_246A,
-        19 => 0xA618_21A6,
-        20 => 0xA1E4_1F37,
-        21 => 0x9DFE_1D10,
-        22 => 0x9A5C_1B25,
-        23 => 0x96F8_196E,
-        24 => 0x93CA_17E4,
-        25 => 0x90CE_167F,
-        26 => 0x8DFE_153C,
-        27 => 0x8B57_1417,
-        28 => 0x88D4_130A,
-        29 => 0x8673_1214,
-        30 => 0x8431_1133,
-        31 => 0x820B_1063,
-        _ => 0,
-    }
-}
+// Lines near 1/√x, for x in steps of 1/32 from 1/4 to 1; the first eight are not asked for. The upper half of an entry is the height where the step i
+// begins, in units of 2^-15; the lower half is how far the line falls within the step, in units of 2^-18.
+static LINES: [u32; 32] = [
+    0,
+    0,
+    0,
+    0,
+    0,
+    0,
+    0,
+    0,
+    0xFFD7_7521,
+    0xF13D_6316,
+    0xE4E1_553F,
+    0xDA3E_4A5B,
+    0xD0F6_419A,
+    0xC8C6_3A71,
+    0xC17A_347F,
+    0xBAEC_2F7E,
+    0xB4FD_2B3D,
+    0xAF97_2795,
+    0xAAA5_246A,
+    0xA618_21A6,
+    0xA1E4_1F37,
+    0x9DFE_1D10,
+    0x9A5C_1B25,
+    0x96F8_196E,
+    0x93CA_17E4,
+    0x90CE_167F,
+    0x8DFE_153C,
+    0x8B57_1417,
+    0x88D4_130A,
+    0x8673_1214,
+    0x8431_1133,
+    0x820B_1063,
+];
 
 // Near the root of n from 2^62 on. With x = n/2^64: y is 1/√x by a line, in units of 2^-31; z is a Newton step from y, in units of 2^-30; r is x·z, not
 // above the root; and what is left of n, times z/2, is added.
 fn guess(n: u64) -> u32 {
     let x = (n >> 32) as u32;
-    let line = line_of(n >> 59);
-    let y = std::num::wrapping_sub_u32(
-        line & 0xFFFF_0000,
-        ((line % 0x1_0000) * ((x >> 11) % 0x1_0000)) >> 3,
-    );
-    let z = upper(
-        y,
-        std::num::wrapping_sub_u32(0xBFFF_FFF8, upper(x, upper(y, y))),
-    );
+    let line = LINES[(n >> 59) as usize];
+    let y = (line & 0xFFFF_0000).wrapping_sub(((line % 0x1_0000) * ((x >> 11) % 0x1_0000)) >> 3);
+    let z = upper(y, 0xBFFF_FFF8u32.wrapping_sub(upper(x, upper(y, y))));
     let r = upper(x, z) << 2;
-    let rest = std::num::wrapping_sub_u64(n, (r as u64) * (r as u64));
+    let rest = n.wrapping_sub((r as u64) * (r as u64));
     let more = ((upper(((rest >> 14) % 0x1_0000_0000) as u32, z) >> 8) + 1) >> 9;
-    if more < 0xFFFF_FFFF - r {
+    // not `r.saturating_add(more)`: what the two loops count from is then computed a second time, and a root takes a sixth more instructions
+    if more < u32::MAX - r {
         r + more
     } else {
-        0xFFFF_FFFF
+        u32::MAX
     }
 }
 

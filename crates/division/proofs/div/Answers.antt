@@ -7,11 +7,12 @@ use lib.Dec.{lit≤}
 use Rattle.posit.specs.Pattern.{unsigned, size, unit}
 use Rattle.posit.specs.Exact.{ratio}
 use Rattle.posit.specs.Rounding.{round, signed}
-use Rattle.posit.proofs.Operation.{neither_nar, quotient_nar}
+use Rattle.posit.proofs.Operation.{quotient_nar}
 use Rattle.posit.proofs.Quotient.{quotient_by_zero, quotient_of_zero, quotient_real}
 use Rattle.rounding.specs.Packed.{packed_unit}
 use Rattle.rounding.proofs.Machine.{differ_is}
 use Rattle.unpacking.specs.Scaled.{scaled_unit}
+use Rattle.unpacking.proofs.Either.{neither}
 use Rattle.division.proofs.div.Goals as goal
 
 pub returns-then-either_nar : goal.returns-then-either_nar
@@ -21,22 +22,22 @@ returns-then-either_nar c =
 
 pub returns-then-q-eq0 : goal.returns-then-q-eq0
 returns-then-q-eq0 c =
-    let k = neither_nar 2 31 c.args.p c.args.q (sym c.either_nar.ensures ∙ c.if-either_nar.false) in
+    let k = neither c.either_nar.ensures c.if-either_nar.false in
     let a = c.args in
     sym (quotient_by_zero 2 31 a.p a.q k.0 k.1 (omega arith))
 
 pub returns-then-p-eq0 : goal.returns-then-p-eq0
 returns-then-p-eq0 c =
-    let k = neither_nar 2 31 c.args.p c.args.q (sym c.either_nar.ensures ∙ c.if-either_nar.false) in
+    let k = neither c.either_nar.ensures c.if-either_nar.false in
     let a = c.args in
     sym (quotient_of_zero 2 31 a.p a.q k.0 k.1 (omega arith) (omega arith))
 
 pub div_sizes-requires : goal.div_sizes-requires
-div_sizes-requires c = let k = neither_nar 2 31 c.args.p c.args.q (sym c.either_nar.ensures ∙ c.if-either_nar.false) in ((c.if-p-eq0.false, k.0), (c.if-q-eq0.false, k.1))
+div_sizes-requires c = let k = neither c.either_nar.ensures c.if-either_nar.false in ((c.if-p-eq0.false, k.0), (c.if-q-eq0.false, k.1))
 
 pub returns : goal.returns
 returns c =
-    let k = neither_nar 2 31 c.args.p c.args.q (sym c.either_nar.ensures ∙ c.if-either_nar.false) in
+    let k = neither c.either_nar.ensures c.if-either_nar.false in
     let a = c.args in
     c.div_sizes.ensures
     ∙ ap (λ (n : Bool). signed 31 n (round 2 31 packed_unit (ratio (size 2 31 scaled_unit (unsigned 31 a.p) * 2 ^ packed_unit) (size 2 31 scaled_unit (unsigned 31 a.q))))) (differ_is _ _)

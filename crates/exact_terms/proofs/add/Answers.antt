@@ -48,4 +48,4 @@ returns c =
     ∙ sym
     (sum_real 2 31 c.args.p c.args.q k.0 k.1
     ∙ terms_sum (exact 2 31 c.args.p) x.negative x.scale x.significand (rw c.of.ensures at c.term.ensures)
-        (exact 2 31 c.args.q) y.negative y.scale y.significand (rw c.of-2.ensures at c.term-2.ensures))
+    (exact 2 31 c.args.q) y.negative y.scale y.significand (rw c.of-2.ensures at c.term-2.ensures))

@@ -1,7 +1,6 @@
 -- `mul` meets its contract: NaR and zero operands by the laws of the product, and else the exact product, rounded.
 use mathlib.Core.Path.{◌≡◌, sym, ap, ◌∙◌}
 use mathlib.Core.Logic.{inl, inr}
-use Prim.Native.Nat.{ℕ}
 use lib.IntN.{ℤ, pos}
 use Rattle.posit.specs.Rounding.{rounded}
 use Rattle.posit.specs.Operation.{exact_product, rounded_here}

@@ -61,4 +61,4 @@ returns c =
     ∙ sym
     (fused_real 2 31 a.p a.q a.s k.0 k.1 c.if-s-eq-NAR.false
     ∙ terms_sum (exact_product 2 31 a.p a.q) x.negative x.scale x.significand (rw (c.of.ensures, c.of-2.ensures) at c.times-t.ensures)
-        (exact 2 31 a.s) y.negative y.scale y.significand (rw c.of-3.ensures at c.term.ensures))
+    (exact 2 31 a.s) y.negative y.scale y.significand (rw c.of-3.ensures at c.term.ensures))
