@@ -28,6 +28,8 @@ pub fn div(p: u32, q: u32) -> u32
     div_sizes((p > NAR) != (q > NAR), p, q)
 }
 
+// A type of patterns that are neither zero nor NaR would have to be public to serve this crate and `exact_terms`, and no public type asks anything of its callers.
+//
 // The quotient of two sizes, rounded, with its sign. The significands' quotient has its leading one at bit 31 or 32, which `pack` does not read, and the
 // remainder is the sticky bit. Sizes of one scale have the scale 1024 of `pack`, or one less where the quotient is below 1.
 fn div_sizes(negative: bool, a: u32, b: u32) -> u32

@@ -32,9 +32,6 @@ returns-then-p-eq0 c =
     let a = c.args in
     sym (quotient_of_zero 2 31 a.p a.q k.0 k.1 (omega arith) (omega arith))
 
-pub div_sizes-requires : goal.div_sizes-requires
-div_sizes-requires c = let k = neither c.either_nar.ensures c.if-either_nar.false in ((c.if-p-eq0.false, k.0), (c.if-q-eq0.false, k.1))
-
 pub returns : goal.returns
 returns c =
     let k = neither c.either_nar.ensures c.if-either_nar.false in

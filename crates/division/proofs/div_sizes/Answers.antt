@@ -63,39 +63,6 @@ module _ {a b c e g d : ℕ} (x : Scales a c g) (y : Scales b e d) where
       place.1)
       ∙ sym (ap₂ (λ (n m : ℕ). round 2 31 packed_unit (ratio (n * 2 ^ packed_unit) m)) x.size_is y.size_is)
 
-pub nonzero_div-q : goal.nonzero_div-q
-nonzero_div-q c =
-    let y = c.scaled_of-y.ensures.of_real c.requires.1 in
-    omega arith
-
-pub overflow_cast-high : goal.overflow_cast-high
-overflow_cast-high c =
-    record { fits = omega (arith, high_small (c.scaled_of-x.ensures.of_real c.requires.0) (c.scaled_of-y.ensures.of_real c.requires.1)) }
-
-pub overflow_add-high : goal.overflow_add-high
-overflow_add-high c =
-    record { fits = omega (arith, high_small (c.scaled_of-x.ensures.of_real c.requires.0) (c.scaled_of-y.ensures.of_real c.requires.1)) }
-
-pub overflow_add-high-2 : goal.overflow_add-high-2
-overflow_add-high-2 c =
-    let x = c.scaled_of-x.ensures.of_real c.requires.0 in
-    record { fits = omega (arith, high_small (c.scaled_of-x.ensures.of_real c.requires.0) (c.scaled_of-y.ensures.of_real c.requires.1)) }
-
-pub overflow_sub-high : goal.overflow_sub-high
-overflow_sub-high c =
-    let x = c.scaled_of-x.ensures.of_real c.requires.0 in
-    let y = c.scaled_of-y.ensures.of_real c.requires.1 in
-    omega arith
-
-pub overflow_sub-high-2 : goal.overflow_sub-high-2
-overflow_sub-high-2 c =
-    omega (arith, high_small (c.scaled_of-x.ensures.of_real c.requires.0) (c.scaled_of-y.ensures.of_real c.requires.1))
-
-pub nonzero_rem-n : goal.nonzero_rem-n
-nonzero_rem-n c =
-    let y = c.scaled_of-y.ensures.of_real c.requires.1 in
-    omega arith
-
 pub returns : goal.returns
 returns c =
     c.pack.ensures ∙ ap (signed 31 c.args.negative) (rounds (c.scaled_of-x.ensures.of_real c.requires.0) (c.scaled_of-y.ensures.of_real c.requires.1))

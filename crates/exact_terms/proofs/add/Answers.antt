@@ -33,12 +33,6 @@ returns-then-q-eq0 c =
     ∙ plus_zero 2 31 (exact 2 31 p)
     ∙ own 2 31 (lit< tt) p (omega arith) k.0)
 
-pub of-requires : goal.of-requires
-of-requires c = (c.if-p-eq0.false, (neither c.either_nar.ensures c.if-either_nar.false).0)
-
-pub of-requires-2 : goal.of-requires-2
-of-requires-2 c = (c.if-q-eq0.false, (neither c.either_nar.ensures c.if-either_nar.false).1)
-
 pub returns : goal.returns
 returns c =
     let k = neither c.either_nar.ensures c.if-either_nar.false in

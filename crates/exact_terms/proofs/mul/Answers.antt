@@ -27,12 +27,6 @@ returns-then-p-eq0 c =
     let none = product_none p q (elim c.then-p-eq0.branch [ then-p-eq0-via-then-p-eq0 w ↦ inl w.if-p-eq0.true | then-p-eq0-via-else-p-eq0+then-q-eq0 w ↦ inr w.if-q-eq0.true ]) in
     sym (product_real 2 31 p q k.0 k.1 ∙ zero_rounded none)
 
-pub of-requires : goal.of-requires
-of-requires c = (c.if-p-eq0.false, (neither c.either_nar.ensures c.if-either_nar.false).0)
-
-pub of-requires-2 : goal.of-requires-2
-of-requires-2 c = (c.if-q-eq0.false, (neither c.either_nar.ensures c.if-either_nar.false).1)
-
 pub returns : goal.returns
 returns c =
     let k = neither c.either_nar.ensures c.if-either_nar.false in

@@ -30,12 +30,6 @@ returns-then-p-eq0 c =
     let none = product_none p q (elim c.then-p-eq0.branch [ then-p-eq0-via-then-p-eq0 w ↦ inl w.if-p-eq0.true | then-p-eq0-via-else-p-eq0+then-q-eq0 w ↦ inr w.if-q-eq0.true ]) in
     sym (fused_real 2 31 p q r k.0 k.1 n ∙ zero_plus 2 31 (lit< tt) none r (omega arith) n)
 
-pub of-requires : goal.of-requires
-of-requires c = (c.if-p-eq0.false, (neither c.either_nar.ensures c.if-either_nar.false).0)
-
-pub of-requires-2 : goal.of-requires-2
-of-requires-2 c = (c.if-q-eq0.false, (neither c.either_nar.ensures c.if-either_nar.false).1)
-
 pub returns-then-s-eq0 : goal.returns-then-s-eq0
 returns-then-s-eq0 c =
     let t = c.times-t.result in
@@ -47,9 +41,6 @@ returns-then-s-eq0 c =
     ∙ ap (λ (z : ℕ). rounded_here 2 31 (exact_product 2 31 a.p a.q +ℤ exact 2 31 z)) c.if-s-eq0.true
     ∙ plus_zero 2 31 (exact_product 2 31 a.p a.q)
     ∙ term_alone (exact_product 2 31 a.p a.q) t.negative t.scale t.significand (rw (c.of.ensures, c.of-2.ensures) at c.times-t.ensures))
-
-pub of-requires-3 : goal.of-requires-3
-of-requires-3 c = (c.if-s-eq0.false, c.if-s-eq-NAR.false)
 
 pub returns : goal.returns
 returns c =

@@ -8,22 +8,9 @@ use lib.Dec.{ltb}
 use mir.Val.{bool_byte}
 use Rattle.posit.specs.Exact.{whole}
 use Rattle.posit.specs.Rounding.{round, signed}
-use Rattle.posit.proofs.Arith.{digit_lt}
 use Rattle.rounding.specs.Packed.{packed_size, packed_unit}
 use Rattle.exact_terms.proofs.Wide.{normalised, wide_rounds}
 use Rattle.exact_terms.proofs.sums.pack_wide.Goals as goal
-
-pub overflow_cast-m : goal.overflow_cast-m
-overflow_cast-m c = record { fits = omega (arith, (normalised c.args.n c.requires.0 c.ranges.n.fits).0) }
-
-pub overflow_shl-m : goal.overflow_shl-m
-overflow_shl-m c = (normalised c.args.n c.requires.0 c.ranges.n.fits).0
-
-pub overflow_sub-scale : goal.overflow_sub-scale
-overflow_sub-scale c = omega (arith, (normalised c.args.n c.requires.0 c.ranges.n.fits).0)
-
-pub overflow_add-m : goal.overflow_add-m
-overflow_add-m c = record { fits = omega (arith, digit_lt c.args.sticky) }
 
 pub returns : goal.returns
 returns c = λ x sound counts.
