@@ -1,10 +1,6 @@
--- What the machine's operations are on the numbers that occur here: a one shifted within its word, a product in a word twice as wide, and two bools that differ.
-use Rattle.std.proofs.Common.{◌≡◌, ℕ, ◌+◌, ◌*◌, ◌%◌, ◌^◌, ◌<◌, Bool, true, false, not, refl, lt_of_le_of_lt, le_of_lt, mod-eq_of_lt, mul-le-mul_left, mul-lt-mul_of_pos_right, one-mul, pow_pos, pow-add}
+-- What the machine's operations are on the numbers that occur here: a product in a word twice as wide, and two bools that differ.
+use Rattle.std.proofs.Common.{◌≡◌, ℕ, ◌+◌, ◌*◌, ◌^◌, ◌<◌, Bool, true, false, not, refl, lt_of_le_of_lt, le_of_lt, mul-le-mul_left, mul-lt-mul_of_pos_right, pow_pos, pow-add}
 use mathlib.Core.Bool.{xor, beq}
-use lib.Pow.{pow-lt}
-
-pub one_shifted : (w k : ℕ) → k < w → 1 * 2 ^ k % 2 ^ w ≡ 2 ^ k
-one_shifted w k h = rw one-mul (mod-eq_of_lt (pow-lt h))
 
 pub product_lt : (k : ℕ) {a b : ℕ} → a < 2 ^ k → b < 2 ^ k → a * b < 2 ^ (k + k)
 product_lt k {a} ha hb = rw pow-add (lt_of_le_of_lt (mul-le-mul_left a (le_of_lt hb)) (mul-lt-mul_of_pos_right ha (pow_pos k)))

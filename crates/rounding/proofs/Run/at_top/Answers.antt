@@ -3,7 +3,7 @@ use Rattle.std.proofs.Common.{◌≡◌, ℕ, suc, ◌+◌, ◌-◌, ◌*◌, �
 use Rattle.posit.proofs.Built.{built}
 use Rattle.posit.proofs.Size.{ones_double, one_built}
 use Rattle.posit.proofs.Arith.{pow_sum}
-use Rattle.rounding.proofs.Machine.{one_shifted}
+use Rattle.std.proofs.lemmas.Nat.{one_shl}
 use Rattle.rounding.proofs.Run.at_top.Goals as goal
 
 ones_above : (m : ℕ) → m ≤ 29 → 2 ^ 32 - 1 - (2 ^ (31 - m) - 1) ≡ built true (suc m) 0 0 * 2 ^ (30 - m)
@@ -14,9 +14,9 @@ ones_above m h =
     rw (e, pow-suc) (omega (arith, ap (λ (b : ℕ). b * 2 ^ (30 - m)) two, pow_pos (30 - m)))
 
 pub returns-then-self : goal.returns-then-self
-returns-then-self c = let m = c.args.self.less in rw (c.if-self.true, one_shifted 32 (31 - m) (omega arith)) (ones_above m (omega arith))
+returns-then-self c = let m = c.args.self.less in rw (c.if-self.true, one_shl (31 - m) 32 (omega arith)) (ones_above m (omega arith))
 
 pub returns-else-self : goal.returns-else-self
 returns-else-self c =
     let m = c.args.self.less in
-    rw (c.if-self.false, one_shifted 32 (30 - m) (omega arith), one_built (suc m)) (sym (one-mul (2 ^ (30 - m))))
+    rw (c.if-self.false, one_shl (30 - m) 32 (omega arith), one_built (suc m)) (sym (one-mul (2 ^ (30 - m))))

@@ -3,7 +3,7 @@ use Rattle.std.proofs.Common.{ℕ, ◌+◌, ◌-◌, ◌/◌, ◌%◌, ◌^◌, 
 use mir.Val.{bool_byte}
 use Rattle.posit.proofs.LongPattern.{half_even}
 use Rattle.posit.proofs.Packing.{from_digits}
-use Rattle.rounding.proofs.Machine.{one_shifted}
+use Rattle.std.proofs.lemmas.Nat.{one_shl}
 use Rattle.rounding.proofs.Packed.{behind_lt, within}
 use Rattle.rounding.proofs.Run.followed_by.Goals as goal
 
@@ -24,4 +24,4 @@ returns c =
     let rest : ℕ → ℕ = λ n. a.t % n in
     c.half_even.ensures
     ∙ ap₂ (λ (r n : ℕ). half_even (r + a.t / 2 ^ (33 + a.self.less)) (ltb 0 (n + bool_byte a.sticky))) c.at_top.ensures
-    (ap rest (one_shifted 64 (33 + a.self.less) (omega arith)))
+    (ap rest (one_shl (33 + a.self.less) 64 (omega arith)))

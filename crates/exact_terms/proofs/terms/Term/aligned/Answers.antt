@@ -2,7 +2,7 @@
 use Rattle.std.proofs.Common.{◌≡◌, ℕ, ◌/◌, ◌%◌, ◌^◌, ◌<◌, min, ltb, refl, sym, ap, ◌∙◌, mod-eq_of_lt, lt_of_lt_of_le, arith, pow_mono}
 use native.Mathlib.Decide.{dec_lt}
 use native.Mathlib.Nat.{div-eq_of_lt}
-use Rattle.rounding.proofs.Machine.{one_shifted}
+use Rattle.std.proofs.lemmas.Nat.{one_shl}
 use Rattle.exact_terms.proofs.terms.Term.aligned.Goals as goal
 
 same : (g d s : ℕ) → g < 2 ^ 63 → s ≡ min d 63 → (g / 2 ^ s ≡ g / 2 ^ d) × (g % 2 ^ s ≡ g % 2 ^ d)
@@ -22,4 +22,4 @@ returns c =
     let x = c.args.self in
     let s = c.min-s.result in
     let k = same x.significand c.args.d s x.normal.below c.min-s.ensures in
-    (k.0, ap (λ (n : ℕ). ltb 0 (x.significand % n)) (one_shifted 64 s (omega arith)) ∙ ap (ltb 0) k.1)
+    (k.0, ap (λ (n : ℕ). ltb 0 (x.significand % n)) (one_shl s 64 (omega arith)) ∙ ap (ltb 0) k.1)
