@@ -22,7 +22,7 @@ pub fn add(p: u32, q: u32) -> u32
     if q == 0 {
         return p;
     }
-    Operand::of(p).term().plus(Operand::of(q).term())
+    Operand::of(p).term().rounded_sum(Operand::of(q).term())
 }
 
 pub fn mul(p: u32, q: u32) -> u32
@@ -51,5 +51,5 @@ pub fn mul_add(p: u32, q: u32, s: u32) -> u32
     if s == 0 {
         return t.rounded();
     }
-    t.plus(Operand::of(s).term())
+    t.rounded_sum(Operand::of(s).term())
 }

@@ -19,13 +19,13 @@ struct Aligned {
 }
 
 impl Term {
-    // The sum, rounded. To choose the terms, and not what to call, leaves no branch.
-    pub(crate) fn plus(self, other: Term) -> u32
+    // To choose the terms, and not what to call, leaves no branch.
+    pub(crate) fn rounded_sum(self, other: Term) -> u32
         ensures { result ≡ rounded 2 31 packed_unit (term self.negative self.scale self.significand +ℤ term other.negative other.scale other.significand) }
     {
         let b = self.is_smaller(other);
         let high = select_unpredictable(b, other, self);
-        high.plus_smaller(select_unpredictable(b, self, other))
+        high.rounded_sum_ordered(select_unpredictable(b, self, other))
     }
 
     // Whether it is the smaller of the two without their signs.
@@ -35,8 +35,8 @@ impl Term {
         (self.scale, self.significand) < (other.scale, other.significand)
     }
 
-    // The sum has the sign of the greater term. The digits of low that fall below its last one are lost to the sticky bit.
-    fn plus_smaller(self, low: Term) -> u32
+    // With a term that is no greater: the sum has the sign of the greater. The digits of low that fall below its last one are lost to the sticky bit.
+    fn rounded_sum_ordered(self, low: Term) -> u32
         requires { magnitude low.scale low.significand ≤ magnitude self.scale self.significand }
         ensures { result ≡ rounded 2 31 packed_unit (term self.negative self.scale self.significand +ℤ term low.negative low.scale low.significand) }
     {

@@ -38,7 +38,7 @@ returns c =
     let k = neither c.either_nar.ensures c.if-either_nar.false in
     let x = c.term.result in
     let y = c.term-2.result in
-    c.plus.ensures
+    c.rounded_sum.ensures
     ∙ sym
     (sum_real 2 31 c.args.p c.args.q k.0 k.1
     ∙ terms_sum (exact 2 31 c.args.p) x.negative x.scale x.significand (rw c.of.ensures at c.term.ensures)

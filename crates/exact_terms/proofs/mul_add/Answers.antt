@@ -48,7 +48,7 @@ returns c =
     let y = c.term.result in
     let k = neither c.either_nar.ensures c.if-either_nar.false in
     let a = c.args in
-    c.plus.ensures
+    c.rounded_sum.ensures
     ∙ sym
     (fused_real 2 31 a.p a.q a.s k.0 k.1 c.if-s-eq-NAR.false
     ∙ terms_sum (exact_product 2 31 a.p a.q) x.negative x.scale x.significand (rw (c.of.ensures, c.of-2.ensures) at c.times-t.ensures)

@@ -1,4 +1,4 @@
--- `Term::plus` meets its contract: the greater of the terms is the first, and the order does not change their sum.
+-- `Term::rounded_sum` meets its contract: the greater of the terms is the first, and the order does not change their sum.
 use mathlib.Core.Path.{◌≡◌, refl, sym, ap, ap₂, subst₂, ◌∙◌}
 use mathlib.Core.Bool.{Bool, true, false}
 use Prim.Native.Nat.{◌≤◌}
@@ -11,7 +11,7 @@ use Rattle.posit.specs.Rounding.{rounded}
 use Rattle.rounding.specs.Packed.{packed_unit}
 use Rattle.exact_terms.specs.declared.terms.Term.{Term}
 use Rattle.rounding.proofs.Terms.{magnitude, term}
-use Rattle.exact_terms.proofs.terms.Term.plus.Goals as goal
+use Rattle.exact_terms.proofs.terms.Term.rounded_sum.Goals as goal
 
 abbrev worth : Term → ℤ
 worth t = term t.negative t.scale t.significand
@@ -28,12 +28,12 @@ module _ (x y : Term) where
   same_sum true = +ℤ_comm (worth y) (worth x)
   same_sum false = refl
 
-pub plus_smaller-requires : goal.plus_smaller-requires
-plus_smaller-requires c =
+pub rounded_sum_ordered-requires : goal.rounded_sum_ordered-requires
+rounded_sum_ordered-requires c =
     subst₂ Ordered (sym c.select_unpredictable-high.ensures) (sym c.select_unpredictable.ensures) (ordered c.args.self c.args.other _ c.is_smaller-b.ensures)
 
 pub returns : goal.returns
 returns c =
-    c.plus_smaller.ensures
+    c.rounded_sum_ordered.ensures
     ∙ ap (rounded 2 31 packed_unit)
     (ap₂ (λ (h l : Term). worth h +ℤ worth l) c.select_unpredictable-high.ensures c.select_unpredictable.ensures ∙ same_sum c.args.self c.args.other c.is_smaller-b.result)

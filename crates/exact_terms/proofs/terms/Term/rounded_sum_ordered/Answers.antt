@@ -1,4 +1,4 @@
--- `Term::plus_smaller` meets its contract: `found` says between which numbers of digits the sum or difference lies, and the greater term has the sign.
+-- `Term::rounded_sum_ordered` meets its contract: `found` says between which numbers of digits the sum or difference lies, and the greater term has the sign.
 use mathlib.Core.Path.{◌≡◌, sym, ap, ap₂, subst₂, ◌∙◌}
 use mathlib.Core.Bool.{Bool, beq}
 use lib.Dec.{ltb}
@@ -17,7 +17,7 @@ use Rattle.rounding.proofs.Terms.{magnitude, combine}
 use Rattle.exact_terms.specs.declared.sums.Aligned.{Aligned}
 use Rattle.exact_terms.specs.declared.terms.Term.{Term}
 use Rattle.exact_terms.proofs.Added.{greater_scale, less, room, total, Found, found, nothing, sum_total, none_rounded}
-use Rattle.exact_terms.proofs.terms.Term.plus_smaller.Goals as goal
+use Rattle.exact_terms.proofs.terms.Term.rounded_sum_ordered.Goals as goal
 
 module _ (h l : Term) (le : magnitude l.scale l.significand ≤ magnitude h.scale h.significand) where
   abbrev same : Bool
