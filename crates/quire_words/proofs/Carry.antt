@@ -1,11 +1,12 @@
 -- A loop from the last digit down to the first that writes a digit of the result and carries the rest: to any base, over any number of digits. What the
--- digits from a place on are to be is S; it grows by one column a turn (`turn`). Sums and complements are of this kind.
-use Rattle.std.proofs.Common.{◌≡◌, ℕ, suc, ◌+◌, ◌-◌, ◌*◌, ◌%◌, ◌^◌, ◌<◌, ◌≤◌, List, length, get_or, drop, set, sym, ap, ◌∙◌, subst, le_refl, mul_assoc, suc-mul, add-mul, add_comm, zero-add, mul-one, arith, length-drop, length-set, drop_of_length-le}
+-- digits from a place on are to be is S; it grows by one column a turn (`turn`). Sums are of this kind. A complement is told digit by digit (`complemented`).
+use Rattle.std.proofs.Common.{◌≡◌, ℕ, suc, ◌+◌, ◌-◌, ◌*◌, ◌%◌, ◌^◌, ◌<◌, ◌≤◌, List, [], ◌∷◌, map, length, get_or, drop, set, sym, ap, ◌∙◌, subst, le_refl, mul_assoc, suc-mul, add-mul, add_comm, zero-add, mul-one, arith, length-drop, length-set, drop_of_length-le}
+use Rattle.std.proofs.lemmas.List.{length-map}
 use native.Mathlib.Nat.{pow-succ' as pow-suc', sub-zero, sub_self, pow-zero}
 use lib.Arith.{digits_mod}
 use Rattle.posit.specs.Digits.{number, InBase}
 use Rattle.posit.proofs.Digits.{number_lt}
-use Rattle.quire_words.proofs.Places.{number_drop, number_drop_lt, below_at, drop_set}
+use Rattle.quire_words.proofs.Places.{number_drop, drop_set}
 
 -- The digits of r from i on, with the carry c in front of them, are the number s: r has n digits.
 pub record Carried (B n i c : ℕ) (r : List ℕ) (s : ℕ) : Type 0 where
@@ -69,11 +70,8 @@ base_parts B P x l =
     let e : B ≡ (B - 1 - x) + suc x = omega arith in
     ap (λ (b : ℕ). b * P) e ∙ add-mul (B - 1 - x) (suc x) P ∙ ap (λ (z : ℕ). (B - 1 - x) * P + z) (suc-mul x P)
 
--- what the complement of a number grows by
-pub complement_grows : (B n i : ℕ) (a : List ℕ) → length a ≡ n → InBase B a → i ≤ n
-    → (j : ℕ) → suc j ≡ i → B ^ (n - j) - 1 - number B (drop j a) ≡ (B - 1 - get_or a j 0) * B ^ (n - suc j) + (B ^ (n - i) - 1 - number B (drop i a))
-complement_grows B n i a ha h w j e =
-    let va = rw (ha, e) at (number_drop B a j (omega arith)) in
-    let la = number_drop_lt B n i a ha h in
-    let one : n - j ≡ suc (n - i) = omega arith in
-    rw (e, one, pow-suc') (omega (arith, base_parts B (B ^ (n - i)) (get_or a j 0) (below_at B a j h (omega arith))))
+-- each digit of a number less than the largest: what the number lacks to the largest of as many digits
+pub complemented : (B : ℕ) (ds : List ℕ) → InBase B ds → number B (map (λ (d : ℕ). B - 1 - d) ds) ≡ B ^ length ds - 1 - number B ds
+unfolding number
+complemented B [] b = rw pow-zero
+complemented B (d ∷ ds) b = rw (length-map ds (λ (d : ℕ). B - 1 - d), complemented B ds b.1, pow-suc') (omega (arith, base_parts B (B ^ length ds) d b.0, number_lt B ds b.1))

@@ -7,6 +7,3 @@ use Rattle.quire_words.proofs.add.Given as goal
 
 abbrev pub invariant-loop-i : goal.invariant-loop-i
 invariant-loop-i l = Carried (2 ^ 64) 8 l.i (bool_byte l.c) l.r (wide (drop l.i l.a) + wide (drop l.i l.b) + bool_byte l.carry)
-
-abbrev pub decreases-loop-i : goal.decreases-loop-i
-decreases-loop-i l = l.i

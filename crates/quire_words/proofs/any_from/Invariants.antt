@@ -5,6 +5,3 @@ use Rattle.quire_words.proofs.any_from.Given as goal
 
 abbrev pub invariant-loop-i : goal.invariant-loop-i
 invariant-loop-i l = (l.i ≤ 8) × (l.i < 8 → l.first ≤ l.i) × ((l.any ≡ 0) ↔ (wide (drop l.i l.a) ≡ 0))
-
-abbrev pub decreases-loop-i : goal.decreases-loop-i
-decreases-loop-i l = l.i
