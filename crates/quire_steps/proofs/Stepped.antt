@@ -14,7 +14,7 @@ use lib.Dec.{ltb, leb}
 use lib.IntN.{ℤ, pos, nat_abs, ◌+ℤ◌, +ℤ_idl}
 use lib.Pow.{pow_pos, pow_mono}
 use Rattle.posit.specs.Digits.{reading, complement}
-use Rattle.posit.specs.Accumulator.{State, not_real, total, kept, plus, negated, minus, bits_of, words, from_words}
+use Rattle.posit.specs.Accumulator.{State, not_real, total, kept, plus, negated, minus, bits_of, from_words}
 use Rattle.posit.proofs.Signs.{with_sign, negated_sign}
 use Rattle.quire_words.specs.Words.{wide}
 use Rattle.quire_words.proofs.Operand.{amount, brought, moved, turned, escaped}
@@ -81,10 +81,6 @@ directed false false q m = ap (λ t. plus 512 q (total t)) (sym (negated_sign fa
 pub directed_brought : (added n s : Bool) (q : State) (shift g : ℕ) → plus 512 q (brought n (beq s added) shift g) ≡ moved added q (brought n s shift g)
 directed_brought added true s q shift g = moved_by_nar true q ∙ sym (moved_by_nar added q)
 directed_brought added false s q shift g = directed added s q (amount shift g)
-
--- words that were stepped by an operand x, which stands for y
-pub moved_by : {x y : State} (added : Bool) (q : State) {ws : List ℕ} → ws ≡ words 512 (moved added q x) → x ≡ y → ws ≡ words 512 (moved added q y)
-moved_by added q e k = e ∙ ap (λ z. words 512 (moved added q z)) k
 
 -- ---- from 0
 

@@ -10,7 +10,6 @@ use Rattle.quire_steps.proofs.from_posit.Goals as goal
 pub returns : goal.returns
 returns c =
     let x = c.posit_of.result in
-    let told = c.posit_of.ensures in
     c.step.ensures
     ∙ ap (λ q. words 512 (plus 512 q (brought x.nar x.negative x.shift x.significand))) read_zero
-    ∙ ap (words 512) (from_zero x.nar x.negative (amount x.shift x.significand) (amount_below x.significand x.shift (omega arith) told.0.0) ∙ told.1)
+    ∙ ap (words 512) (from_zero x.nar x.negative (amount x.shift x.significand) (amount_below x.significand x.shift (omega arith) x.in_place.0) ∙ c.posit_of.ensures)

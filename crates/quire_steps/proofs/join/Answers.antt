@@ -1,18 +1,19 @@
 -- `join` meets its contract: NaR on either side stays NaR; else the words that were judged have the number of the new state (`joined_bits`).
-use mathlib.Core.Path.{sym, ap, ◌∙◌}
+use mathlib.Core.Path.{◌≡◌, sym, ap, ◌∙◌}
 use mathlib.Core.Bool.{Bool, cond, not, beq}
-use Prim.Native.Nat.{ℕ, ◌+◌, ◌%◌, ◌^◌}
+use Prim.Native.Nat.{ℕ, ◌+◌, ◌-◌, ◌%◌, ◌^◌}
 use borrow.Author.Tests.{eqb-true, eqb-false}
 use mir.Val.{bool_byte}
 use lib.Dec.{leb}
 use Rattle.posit.specs.Accumulator.{words, from_words}
 use Rattle.quire_words.specs.Words.{wide}
-use Rattle.quire_words.proofs.Operand.{moved, escaped}
+use Rattle.quire_words.proofs.Operand.{moved, turned, escaped}
 use Rattle.quire_words.proofs.Places.{words_typed, wide_typed}
 use Rattle.quire_steps.proofs.Words.{read_nar, spelt}
 use Rattle.quire_steps.proofs.Stepped.{nar_moves, moved_by_nar}
 use Rattle.quire_steps.proofs.Joined.{sign_told, joined_bits}
 use Rattle.quire_steps.proofs.join.Goals as goal
+use Rattle.quire_steps.proofs.join.Goals.{then-added, else-added}
 
 pub returns-then-is_alone : goal.returns-then-is_alone
 returns-then-is_alone c =
@@ -34,7 +35,8 @@ returns c =
     let r = words_typed 8 c.judged.result c.judged.type_inv in
     let ne = eqb-false (wide q) (2 ^ 511) (sym c.is_alone.ensures ∙ c.if-is_alone.false) in
     let ne' = eqb-false (wide p) (2 ^ 511) (sym c.is_alone-2.ensures ∙ c.if-is_alone-2.false) in
-    let sum = c.add.ensures ∙ ap (λ (n : ℕ). (wide q + n + bool_byte (not added)) % 2 ^ 512) c.turned_words.ensures in
+    let given : wide c.if-added.other ≡ turned (not added) (2 ^ 512 - 1) (wide p) = elim c.if-added.branch [ then-added w ↦ rw (w.other-is, w.if-added.true) | else-added w ↦ rw (w.other-is, w.if-added.false) w.complement-other.ensures ] in
+    let sum = c.add.ensures ∙ ap (λ (n : ℕ). (wide q + n + bool_byte (not added)) % 2 ^ 512) given in
     let sign = ap (λ (b : Bool). beq b added) (sign_told (leb (2 ^ 511) (wide p)) _ c.sign_of.ensures) in
     spelt _ c.judged.result r.0 r.1
     (c.judged.ensures

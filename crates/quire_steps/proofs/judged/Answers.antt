@@ -2,7 +2,7 @@
 use mathlib.Core.Path.{◌≡◌, refl, sym, ap₂, ◌∙◌}
 use mathlib.Core.Bool.{Bool, true, false}
 use Prim.Native.Nat.{ℕ, ◌^◌}
-use borrow.Author.Tests.{lt-ltb, le-ltb}
+use borrow.Author.Tests.{lt-ltb}
 use lib.Bits.{bit_xor}
 use lib.Dec.{leb, ltb}
 use mir.Val.{bool_byte}
@@ -32,9 +32,3 @@ returns-then-sign_of-s c =
     let k = c.args in
     let out = tested (leb (2 ^ 511) (wide k.before)) k.negative (leb (2 ^ 511) (wide k.after)) true _ _ c.sign_of.ensures c.sign_of-2.ensures (lt-ltb _ _ c.if-sign_of-s.true) in
     rw (out, c.not_real.ensures)
-
-pub returns-else-sign_of-s : goal.returns-else-sign_of-s
-returns-else-sign_of-s c =
-    let k = c.args in
-    let stays = tested (leb (2 ^ 511) (wide k.before)) k.negative (leb (2 ^ 511) (wide k.after)) false _ _ c.sign_of.ensures c.sign_of-2.ensures (le-ltb _ _ c.if-sign_of-s.false) in
-    rw stays

@@ -35,5 +35,5 @@ returns c =
     let ne = eqb-false (wide q) (2 ^ 511) (sym c.is_alone.ensures ∙ c.if-is_alone.false) in
     spelt _ c.judged.result r.0 r.1
     (c.judged.ensures
-    ∙ stepped_bits x.negative q m _ ne (wide_typed q c.well_formed.0) (amount_below x.significand x.shift (omega arith) c.requires.0) c.sum_at.ensures
+    ∙ stepped_bits x.negative q m _ ne (wide_typed q c.well_formed.0) (amount_below x.significand x.shift (omega arith) x.in_place.0) c.sum_at.ensures
     ∙ ap (λ y. bits_of 512 (plus 512 (from_words 512 q) y)) (sym stands))

@@ -4,9 +4,6 @@ use Rattle.posit.specs.Accumulator.{words, from_words}
 use Rattle.quire_steps.proofs.Stepped.{directed_brought}
 use Rattle.quire_steps.proofs.step_by.Goals as goal
 
-pub step-requires : goal.step-requires
-step-requires c = rw (c.directed.ensures.2, c.directed.ensures.3) c.requires
-
 pub returns : goal.returns
 returns c =
     let a = c.args in

@@ -32,19 +32,19 @@ loop-carry-preserved c =
 
 pub returns : goal.returns
 returns c =
-    let a = c.args in
+    let a = c.args.x in
     let at = c.loop-carry in
     let given = c.places_of-r.result in
     let nine : length given ≡ 9 = (words_typed 9 given c.places_of-r.type_inv).0 in
     -- no word is left, or what is carried is the digit above
     let done : (at.carry ≡ a.negative) ⊎ (at.i ≡ 9) = grind (arith, alike) in
     let columns =
-    two_columns a.negative c.add_word-low.result.carry c.add_word-high.result.carry a.significand a.shift _ _ _ _ given nine (omega arith) c.requires.0 c.turned_word.ensures c.turned_word-2.ensures
+    two_columns a.negative c.add_word-low.result.carry c.add_word-high.result.carry a.significand a.shift _ _ _ _ given nine (omega arith) a.in_place.0 c.turned_word.ensures c.turned_word-2.ensures
     c.add_word-low.ensures c.add_word-high.ensures in
     -- what has come of the whole chain
     let summed : Shifted a.negative (upward (2 ^ 64) at.r + bool_byte at.carry * (2 ^ 64) ^ 9) (upward (2 ^ 64) given + bool_byte a.negative * (2 ^ 64) ^ 9) (a.significand * 2 ^ a.shift) =
     rw nine at (ended (at.invariant.1 given _ nine columns) (⊎_map (λ e. e) (λ e. e ∙ sym nine) done)) in
     -- an operand is within the accumulator
-    let small : a.significand * 2 ^ a.shift / 2 ^ 64 < 2 ^ 512 = lt_trans (amount_below a.significand a.shift (omega arith) c.requires.0) (lit< tt) in
-    chained a.negative at.carry _ (wide a.q) (a.significand * 2 ^ a.shift) _ _ (wide_typed c.words_of.result c.words_of.type_inv) small c.requires.1
+    let small : a.significand * 2 ^ a.shift / 2 ^ 64 < 2 ^ 512 = lt_trans (amount_below a.significand a.shift (omega arith) a.in_place.0) (lit< tt) in
+    chained a.negative at.carry _ (wide c.args.q) (a.significand * 2 ^ a.shift) _ _ (wide_typed c.words_of.result c.words_of.type_inv) small a.in_place.1
     c.places_of-r.ensures c.words_of.ensures summed
