@@ -1,9 +1,8 @@
 -- One promise, one answer, of every public function on the accumulator. The statement is `Fixes` (Fixes.antt); p and p' say that two results meet the contract.
 use mathlib.Core.Path.{refl, sym, ◌∙◌}
-use lib.ListN.{get_or}
 use borrow.Author.Rules.{rules}
 use Rattle.one_answer.specs.Fixes.{Fixes, FixesTyped, FixesLent}
-use Rattle.one_answer.proofs.Determined.{same_sum, same_words}
+use Rattle.one_answer.proofs.Determined.{same_sum, same_words, same_posits}
 use Rattle.quire_words.specs.contracts as of_quire_words
 use Rattle.quire_words.proofs as quire_words
 use Rattle.quire_steps.specs.contracts as of_quire_steps
@@ -83,10 +82,10 @@ pub quire_totals_to_posit_fixes : Fixes of_quire_totals.to_posit.ended quire_tot
 quire_totals_to_posit_fixes = record { answers = λ κs a. tt; one = λ κs a x y u v p p'. (λ i. record { 0 = (p ∙ sym p') i }, refl) }
 
 pub quire_totals_two_posits_fixes : Fixes of_quire_totals.two_posits.ended quire_totals.two_posits.Reads.Pre quire_totals.two_posits.Reads.Post
-quire_totals_two_posits_fixes = record { answers = λ κs a. tt; one = λ κs a x y u v p p'. (λ i. record { first = record { 0 = get_or ((p ∙ sym p') i) 0 0 }; second = record { 0 = get_or ((p ∙ sym p') i) 1 0 } }, refl) }
+quire_totals_two_posits_fixes = record { answers = λ κs a. tt; one = λ κs a x y u v p p'. (same_posits x y (p ∙ sym p'), refl) }
 
 pub quire_totals_three_posits_fixes : Fixes of_quire_totals.three_posits.ended quire_totals.three_posits.Reads.Pre quire_totals.three_posits.Reads.Post
-quire_totals_three_posits_fixes = record { answers = λ κs a. tt; one = λ κs a x y u v p p'. (λ i. record { first = record { 0 = get_or ((p ∙ sym p') i) 0 0 }; second = record { 0 = get_or ((p ∙ sym p') i) 1 0 }; third = record { 0 = get_or ((p ∙ sym p') i) 2 0 } }, refl) }
+quire_totals_three_posits_fixes = record { answers = λ κs a. tt; one = λ κs a x y u v p p'. (same_posits x y (p ∙ sym p'), refl) }
 
 -- ---- quire32
 pub quire32_init_fixes : Fixes of_quire32.Q32E2.init.ended quire32.Q32E2.init.Reads.Pre quire32.Q32E2.init.Reads.Post
@@ -99,10 +98,10 @@ pub quire32_from_posit_fixes : Fixes of_quire32.Q32E2.from_posit.ended quire32.Q
 quire32_from_posit_fixes = record { answers = λ κs a. tt; one = λ κs a x y u v p p'. (λ i. record { 0 = (p ∙ sym p') i }, refl) }
 
 pub quire32_into_two_posits_fixes : Fixes of_quire32.Q32E2.into_two_posits.ended quire32.Q32E2.into_two_posits.Reads.Pre quire32.Q32E2.into_two_posits.Reads.Post
-quire32_into_two_posits_fixes = record { answers = λ κs a. tt; one = λ κs a x y u v p p'. (λ i. record { first = record { 0 = get_or ((p ∙ sym p') i) 0 0 }; second = record { 0 = get_or ((p ∙ sym p') i) 1 0 } }, refl) }
+quire32_into_two_posits_fixes = record { answers = λ κs a. tt; one = λ κs a x y u v p p'. (same_posits x y (p ∙ sym p'), refl) }
 
 pub quire32_into_three_posits_fixes : Fixes of_quire32.Q32E2.into_three_posits.ended quire32.Q32E2.into_three_posits.Reads.Pre quire32.Q32E2.into_three_posits.Reads.Post
-quire32_into_three_posits_fixes = record { answers = λ κs a. tt; one = λ κs a x y u v p p'. (λ i. record { first = record { 0 = get_or ((p ∙ sym p') i) 0 0 }; second = record { 0 = get_or ((p ∙ sym p') i) 1 0 }; third = record { 0 = get_or ((p ∙ sym p') i) 2 0 } }, refl) }
+quire32_into_three_posits_fixes = record { answers = λ κs a. tt; one = λ κs a x y u v p p'. (same_posits x y (p ∙ sym p'), refl) }
 
 -- the methods that are lent the accumulator to read it, and those that change it, which have no result
 unfoldable pub quire32_to_bits_fixes : FixesLent of_quire32.Q32E2.to_bits.ended (λ M 𝓤 𝓛. of_quire32.Q32E2.to_bits.clauses 𝓛)

@@ -1,8 +1,8 @@
 -- Where a contract tells an answer by what it means, the meaning determines the answer.
-use mathlib.Core.Path.{◌≡◌, refl, sym, ap, subst, ◌∙◌}
+use mathlib.Core.Path.{◌≡◌, refl, sym, ap, ap₂, subst, ◌∙◌}
 use mathlib.Core.Bool.{Bool, true, false, cond}
 use mathlib.Core.Logic.{inl, inr}
-use mathlib.Core.List.{List}
+use mathlib.Core.List.{List, [], ◌∷◌, map}
 use Prim.Native.Nat.{ℕ, ◌+◌, ◌*◌, ◌/◌, ◌^◌, ◌≤◌, ◌<◌}
 use native.Mathlib.Nat.{mul-le-mul_right}
 use native.Mathlib.Decide.{dec_lt, ℕ_discrete}
@@ -20,6 +20,7 @@ use Rattle.unpacking.specs.Unpacked.{meaning}
 use Rattle.unpacking.specs.Scaled.{Scales, IsScaled}
 use Rattle.unpacking.specs.declared.Unpacked.{Unpacked}
 use Rattle.unpacking.specs.declared.Unpacked.TheVariants.{Zero, NaR, Real}
+use Rattle.p32e2.specs.declared.P32E2.{P32E2}
 use Rattle.quire_words.specs.Words.{wide}
 use Rattle.quire_words.proofs.Places.{words_typed}
 use Rattle.desk.specs.Answers.{write_number, read_number, batch_number, claim_number}
@@ -102,6 +103,16 @@ same_sum m n false true h k e = absurd (omega arith)
 
 pub same_words : (x y : List ℕ) → Words x → Words y → wide x ≡ wide y → x ≡ y
 same_words x y o o' e = sym (from_number x o) ∙ ap (digits (2 ^ 64) 8) e ∙ from_number y o'
+
+-- ---- posits, by their patterns
+pub same_posits : (x y : List P32E2) → map (λ (p : P32E2). p.0) x ≡ map (λ (p : P32E2). p.0) y → x ≡ y
+same_posits [] [] e = refl
+same_posits [] (q ∷ y) e = absurd (cc)
+same_posits (p ∷ x) [] e = absurd (cc)
+same_posits (p ∷ x) (q ∷ y) e =
+    let first : p.0 ≡ q.0 = cc in
+    let rest : map (λ (p : P32E2). p.0) x ≡ map (λ (p : P32E2). p.0) y = cc in
+    ap₂ ◌∷◌ (λ i. record { 0 = first i }) (same_posits x y rest)
 
 -- ---- the desk's answers, by their numbers
 write_back : (x : WriteAnswer) → cond (eqb (write_number x) 0) Written BufferTooShort ≡ x

@@ -1,6 +1,6 @@
 -- Wrong engines for functions that hand over to another function: each says what a neighbour of that function would, or does nothing. None meets the contract; the arguments on which it fails are computed by the definitions.
 use mathlib.Core.Path.{◌≡◌, refl, ap}
-use mathlib.Core.List.{List, [], ◌∷◌}
+use mathlib.Core.List.{List, [], ◌∷◌, map}
 use Prim.Native.Nat.{ℕ, ◌+◌, ◌-◌, ◌%◌, ◌^◌}
 use mir.Val.{bool_byte}
 use lib.Dec.{eqb}
@@ -11,6 +11,7 @@ use Rattle.posit.specs.Pattern.{nar, opposite}
 use Rattle.posit.specs.Operation.{sum, difference, product, quotient, fused_sum, fused_difference}
 use Rattle.posit.specs.Accumulator.{is_not_real, is_clear, of_posit, of_product, plus, minus, negated, to_posit, words, from_words}
 use Rattle.desk.specs.Desk.{after_batch}
+use Rattle.p32e2.specs.declared.P32E2.{P32E2}
 use Rattle.quire_words.specs.Words.{wide}
 use Rattle.quire_steps.specs.Sign.{sign_off}
 use Rattle.one_answer.specs.Engines.{NoConstant, NotAlways, Never}
@@ -79,11 +80,11 @@ unfolding everything quire32_clear_fixes
 quire32_clear_not_idle = never _ (λ κs a x u p. ap wide p) ([], tt) (lent_mut 1, tt) tt tt
 
 -- the last part is zero every time
-pub quire32_into_two_posits_not_one : Never quire32_into_two_posits_fixes (λ κs a r u. r.second.0) (λ κs a. 0)
+pub quire32_into_two_posits_not_one : Never quire32_into_two_posits_fixes (λ κs a r u. get_or (map (λ (p : P32E2). p.0) r) 1 0) (λ κs a. 0)
 unfolding everything
 quire32_into_two_posits_not_one = never _ (λ κs a x u p. ap (λ (l : List ℕ). get_or l 1 0) p) tt (held (2 ^ 240 + 1), tt) tt tt
 
-pub quire32_into_three_posits_not_two : Never quire32_into_three_posits_fixes (λ κs a r u. r.third.0) (λ κs a. 0)
+pub quire32_into_three_posits_not_two : Never quire32_into_three_posits_fixes (λ κs a r u. get_or (map (λ (p : P32E2). p.0) r) 2 0) (λ κs a. 0)
 unfolding everything
 quire32_into_three_posits_not_two = never _ (λ κs a x u p. ap (λ (l : List ℕ). get_or l 2 0) p) tt (held (2 ^ 240 + 1), tt) tt tt
 

@@ -1,12 +1,12 @@
 // The accumulator Q32E2: sums of posits of 32 bits and of their exact products, without rounding. It counts units of 2^-240 in 512 bits.
 #![tactic(auto)]
 
-ghost use Rattle.std.specs.Prelude.{◌≡◌, [], ◌∷◌, ◌^◌};
+ghost use Rattle.std.specs.Prelude.{◌≡◌, [], ◌∷◌, ◌^◌, map};
 ghost use Rattle.posit.specs.Accumulator.{not_real, clear, is_not_real, is_clear, of_posit, of_product, plus, minus, negated, to_posit, parts_of, words, from_words};
 ghost use Rattle.quire_steps.specs.Sign.{sign_off};
 
 use p32e2::P32E2;
-use quire_totals::{ThreePosits, TwoPosits, three_posits, two_posits};
+use quire_totals::{three_posits, two_posits};
 
 // The eight words, word 0 most significant: one number in two's complement. The one pattern of -2^511 is NaR.
 #[derive(Clone, Copy)]
@@ -19,6 +19,7 @@ impl Q32E2 {
 
     pub const NAR: Q32E2 = Q32E2([0x8000_0000_0000_0000, 0, 0, 0, 0, 0, 0, 0]);
 
+    // `init`, `from_bits` and `to_bits` are the source's names: plain methods in the place of traits (document 01).
     pub fn init() -> Q32E2
         ensures { result.0 ≡ words 512 clear }
     {
@@ -101,13 +102,13 @@ impl Q32E2 {
     pub fn qAddQ(&mut self, p: Q32E2)
         ensures { self.new.0 ≡ words 512 (plus 512 (from_words 512 self.old.0) (from_words 512 p.0)) }
     {
-        self.0 = sum_with(self.0, p);
+        self.0 = quire_steps::qAddQ(self.0, p.0);
     }
 
     pub fn qSubQ(&mut self, p: Q32E2)
         ensures { self.new.0 ≡ words 512 (minus 512 (from_words 512 self.old.0) (from_words 512 p.0)) }
     {
-        self.0 = difference_with(self.0, p);
+        self.0 = quire_steps::qSubQ(self.0, p.0);
     }
 
     pub fn clear(&mut self)
@@ -116,42 +117,24 @@ impl Q32E2 {
         self.0 = quire_steps::cleared();
     }
 
-    pub fn into_two_posits(self) -> TwoPosits
-        ensures { result.first.0 ∷ result.second.0 ∷ [] ≡ parts_of 2 31 512 2 (from_words 512 self.0) }
+    pub fn into_two_posits(self) -> [P32E2; 2]
+        ensures { map (λ (p : P32E2). p.0) result ≡ parts_of 2 31 512 2 (from_words 512 self.0) }
     {
-        let words = self.0;
-        two_posits(words)
+        two_posits(self.0)
     }
 
-    pub fn into_three_posits(self) -> ThreePosits
-        ensures { result.first.0 ∷ result.second.0 ∷ result.third.0 ∷ [] ≡ parts_of 2 31 512 3 (from_words 512 self.0) }
+    pub fn into_three_posits(self) -> [P32E2; 3]
+        ensures { map (λ (p : P32E2). p.0) result ≡ parts_of 2 31 512 3 (from_words 512 self.0) }
     {
-        let words = self.0;
-        three_posits(words)
+        three_posits(self.0)
     }
-}
-
-// The words and those of another accumulator, added.
-fn sum_with(q: [u64; 8], p: Q32E2) -> [u64; 8]
-    ensures { result ≡ words 512 (plus 512 (from_words 512 q) (from_words 512 p.0)) }
-{
-    let other = p.0;
-    quire_steps::qAddQ(q, other)
-}
-
-// The same, taken.
-fn difference_with(q: [u64; 8], p: Q32E2) -> [u64; 8]
-    ensures { result ≡ words 512 (minus 512 (from_words 512 q) (from_words 512 p.0)) }
-{
-    let other = p.0;
-    quire_steps::qSubQ(q, other)
 }
 
 // The constants' words, in the order of their declarations. Nothing calls this: its contract ties the constants to the definitions.
 fn words_of_constants() -> [[u64; 8]; 3]
     ensures { result ≡ words 512 clear ∷ words 512 (of_posit 2 31 (2 ^ 30)) ∷ words 512 not_real ∷ [] }
 {
-    let zero = Q32E2::ZERO.0;
+    let zero = Q32E2::ZERO.0; // each in a variable: the check has no array of fields
     let one = Q32E2::ONE.0;
     let nar = Q32E2::NAR.0;
     [zero, one, nar]

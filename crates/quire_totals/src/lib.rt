@@ -1,7 +1,7 @@
 // The rounding of a total, by value, and its parts.
 #![tactic(auto)]
 
-ghost use Rattle.std.specs.Prelude.{◌≡◌, [], ◌∷◌, ◌<◌, ◌^◌, drop, get_or};
+ghost use Rattle.std.specs.Prelude.{◌≡◌, ◌<◌, map};
 ghost use Rattle.posit.specs.Rounding.{rounded};
 ghost use Rattle.posit.specs.Accumulator.{to_posit, parts_of, from_words};
 ghost use Rattle.posit.proofs.Signs.{with_sign};
@@ -27,40 +27,31 @@ pub fn to_posit(q: [u64; 8]) -> P32E2
     P32E2(round_size(negative, size_of(q)))
 }
 
+// The total in two parts, and in three, by the source's names.
+pub fn two_posits(q: [u64; 8]) -> [P32E2; 2]
+    ensures { map (λ (p : P32E2). p.0) result ≡ parts_of 2 31 512 2 (from_words 512 q) }
+{
+    parts::<2>(q)
+}
+
+pub fn three_posits(q: [u64; 8]) -> [P32E2; 3]
+    ensures { map (λ (p : P32E2). p.0) result ≡ parts_of 2 31 512 3 (from_words 512 q) }
+{
+    parts::<3>(q)
+}
+
 // A total in parts: each the rounding of what the parts before it leave.
-#[derive(Clone, Copy)]
-pub struct TwoPosits {
-    pub first: P32E2,
-    pub second: P32E2,
-}
-
-#[derive(Clone, Copy)]
-pub struct ThreePosits {
-    pub first: P32E2,
-    pub second: P32E2,
-    pub third: P32E2,
-}
-
-pub fn two_posits(q: [u64; 8]) -> TwoPosits
-    ensures { result.first.0 ∷ result.second.0 ∷ [] ≡ parts_of 2 31 512 2 (from_words 512 q) }
+fn parts<const N: usize>(q: [u64; 8]) -> [P32E2; N]
+    ensures { map (λ (p : P32E2). p.0) result ≡ parts_of 2 31 512 N (from_words 512 q) }
 {
-    let first = to_posit(q);
-    let second = to_posit(sub_posit(q, first));
-    TwoPosits { first, second }
-}
-
-pub fn three_posits(q: [u64; 8]) -> ThreePosits
-    ensures { result.first.0 ∷ result.second.0 ∷ result.third.0 ∷ [] ≡ parts_of 2 31 512 3 (from_words 512 q) }
-{
-    let first = to_posit(q);
-    let rest = two_posits(sub_posit(q, first));
-    let second = rest.first;
-    let third = rest.second;
-    ThreePosits {
-        first,
-        second,
-        third,
+    let mut rest = q;
+    let mut parts = [to_posit(q); N];
+    for i in 1..N {
+        let left = sub_posit(rest, parts[i - 1]);
+        parts[i] = to_posit(left);
+        rest = left;
     }
+    parts
 }
 
 // The number w, which is not 0, rounded, with its sign.
@@ -90,31 +81,12 @@ fn first_digits(w: [u64; 8]) -> Leading
     requires { 0 < wide w }
     ensures { FirstDigits (wide w) result.unit result.digits result.more }
 {
-    let i = first_word(w);
-    let z = u64::leading_zeros(w[i]);
-    let next = word_at(w, i + 1);
+    let i = w.iter().position(|d| *d != 0).unwrap(); // the first word that is not 0
+    let z = w[i].leading_zeros();
+    let next = w.get(i + 1).copied().unwrap_or(0);
     Leading {
         unit: 1294 - 64 * (i as u32) - z,
         digits: (w[i] << z) + ((next >> 1) >> (63 - z)),
         more: (0 < next << z) | any_from(w, i + 2),
     }
-}
-
-// The place of the first word that is not 0.
-fn first_word(w: [u64; 8]) -> usize
-    requires { 0 < wide w }
-    ensures { (result < 8) × (wide w ≡ wide (drop result w)) × (0 < get_or w result 0) }
-{
-    let mut i: usize = 0;
-    while w[i] == 0 {
-        i += 1;
-    }
-    i
-}
-
-// The word at a place, 0 behind the last.
-fn word_at(w: [u64; 8], i: usize) -> u64
-    ensures { result ≡ get_or w i 0 }
-{
-    if i < 8 { w[i] } else { 0 }
 }

@@ -7,7 +7,6 @@ use native.Mathlib.Omega.{arith}
 use lib.Dec.{ltb, lit≤}
 use lib.Pow.{pow_pos}
 use mir.Val.{bool_byte}
-use Rattle.posit.proofs.Arith.{digit_lt}
 use Rattle.posit.specs.Exact.{whole}
 use Rattle.posit.specs.Rounding.{round, rounded, signed}
 use Rattle.posit.proofs.Signs.{with_sign, scaled_sign}
@@ -29,9 +28,6 @@ digits_rounded s x u d more p l =
     ∙ rounded_signed 2 31 packed_unit s (x * 2 ^ finer_by) sound
     ∙ ap (signed 31 s) (rw (mul-one, sub-zero) at
     (wide_rounds d 0 u (rw mul-one l.top) (rw mul-one l.word) (omega arith) (whole (x * 2 ^ finer_by)) sound more l.counts (λ _. le_trans (lit≤ tt) l.top)))
-
-pub overflow_add-x-2 : goal.overflow_add-x-2
-overflow_add-x-2 c = record { fits = omega (arith, digit_lt c.first_digits-x.result.more) }
 
 pub returns : goal.returns
 returns c =
