@@ -21,88 +21,75 @@ pub extern "C" fn stallhitch_q32e2_clear(q: &mut [u64; 8])
 pub extern "C" fn stallhitch_q32e2_add_product(q: &mut [u64; 8], a: u32, b: u32)
     ensures { q.new ≡ words 512 (plus 512 (from_words 512 q.old) (of_product 2 31 a b)) }
 {
-    let w = *q;
-    *q = add_product(w, P32E2(a), P32E2(b));
+    *q = add_product(*q, P32E2(a), P32E2(b));
 }
 
 #[unsafe(no_mangle)]
 pub extern "C" fn stallhitch_q32e2_sub_product(q: &mut [u64; 8], a: u32, b: u32)
     ensures { q.new ≡ words 512 (minus 512 (from_words 512 q.old) (of_product 2 31 a b)) }
 {
-    let w = *q;
-    *q = sub_product(w, P32E2(a), P32E2(b));
+    *q = sub_product(*q, P32E2(a), P32E2(b));
 }
 
 #[unsafe(no_mangle)]
 pub extern "C" fn stallhitch_q32e2_add_posit(q: &mut [u64; 8], a: u32)
     ensures { q.new ≡ words 512 (plus 512 (from_words 512 q.old) (of_posit 2 31 a)) }
 {
-    let w = *q;
-    *q = add_posit(w, P32E2(a));
+    *q = add_posit(*q, P32E2(a));
 }
 
 #[unsafe(no_mangle)]
 pub extern "C" fn stallhitch_q32e2_sub_posit(q: &mut [u64; 8], a: u32)
     ensures { q.new ≡ words 512 (minus 512 (from_words 512 q.old) (of_posit 2 31 a)) }
 {
-    let w = *q;
-    *q = sub_posit(w, P32E2(a));
+    *q = sub_posit(*q, P32E2(a));
 }
 
 #[unsafe(no_mangle)]
 pub extern "C" fn stallhitch_q32e2_neg(q: &mut [u64; 8])
     ensures { q.new ≡ words 512 (negated (from_words 512 q.old)) }
 {
-    let w = *q;
-    *q = neg(w);
+    *q = neg(*q);
 }
 
 #[unsafe(no_mangle)]
 pub extern "C" fn stallhitch_q32e2_qAbs(q: &mut [u64; 8])
     ensures { q.new ≡ words 512 (sign_off (from_words 512 q.old)) }
 {
-    let w = *q;
-    *q = qAbs(w);
+    *q = qAbs(*q);
 }
 
 #[unsafe(no_mangle)]
 pub extern "C" fn stallhitch_q32e2_qAddQ(q: &mut [u64; 8], p: &[u64; 8])
     ensures { q.new ≡ words 512 (plus 512 (from_words 512 q.old) (from_words 512 p.now)) }
 {
-    let w = *q;
-    let other = *p;
-    *q = qAddQ(w, other);
+    *q = qAddQ(*q, *p);
 }
 
 #[unsafe(no_mangle)]
 pub extern "C" fn stallhitch_q32e2_qSubQ(q: &mut [u64; 8], p: &[u64; 8])
     ensures { q.new ≡ words 512 (minus 512 (from_words 512 q.old) (from_words 512 p.now)) }
 {
-    let w = *q;
-    let other = *p;
-    *q = qSubQ(w, other);
+    *q = qSubQ(*q, *p);
 }
 
 #[unsafe(no_mangle)]
 pub extern "C" fn stallhitch_q32e2_to_posit(q: &[u64; 8]) -> u32
     ensures { result ≡ to_posit 2 31 (from_words 512 q.now) }
 {
-    let w = *q;
-    to_posit(w).0
+    to_posit(*q).0
 }
 
 #[unsafe(no_mangle)]
 pub extern "C" fn stallhitch_q32e2_is_zero(q: &[u64; 8]) -> bool
     ensures { result ≡ is_clear (from_words 512 q.now) }
 {
-    let w = *q;
-    is_zero(w)
+    is_zero(*q)
 }
 
 #[unsafe(no_mangle)]
 pub extern "C" fn stallhitch_q32e2_is_nar(q: &[u64; 8]) -> bool
     ensures { result ≡ is_not_real (from_words 512 q.now) }
 {
-    let w = *q;
-    is_nar(w)
+    is_nar(*q)
 }

@@ -4,12 +4,19 @@ use mathlib.Core.Logic.{◌≢◌}
 use mathlib.Core.Bool.{Bool, cond}
 use mathlib.Core.List.{List, ◌++◌}
 use Prim.Native.Nat.{ℕ, ◌≤◌, ◌<◌}
+use native.Mathlib.Omega.{arith}
 use borrow.Author.Tests.{eq-eqb, ne_eqb, lt-ltb, le-ltb}
 use lib.ListN.{length, drop}
+use Rattle.std.specs.Prelude.{Result, Err}
+use Rattle.std.specs.Result.{IsErrAnd}
+use Rattle.std.proofs.lemmas.Result.{err_from_is_err_and}
 use Rattle.posit.specs.Digits.{number, same}
 use Rattle.posit.specs.Accumulator.{State, clear, image, from_words, from_image, state_of}
 use Rattle.desk.specs.Batch.{batch}
 use Rattle.desk.specs.Desk.{pair_limit, length_refusal, buffer_refusal, batch_refusal, claim_refusal, written_to, read_into, after_batch}
+use Rattle.desk.specs.Answers.{refusal_number}
+use Rattle.desk.specs.declared.refusal.Refusal.{Refusal}
+use Rattle.desk.specs.declared.refusal.Refusal.TheVariants.{WrongLength, BufferTooShort, UnequalLists, TooManyPairs, Differs}
 use Rattle.quire_words.specs.Words.{wide}
 
 -- ---- a batch
@@ -71,3 +78,17 @@ module _ (q : State) (bs : List ℕ) where
 pub one_number : (ws bs : List ℕ) → wide ws ≡ number 256 bs → from_words 512 ws ≡ from_image 512 bs
 unfolding from_words from_image
 one_number ws bs e = ap (state_of 512) e
+
+-- ---- a refusal
+
+-- its number is not that of no refusal
+pub refused_number : (r : Refusal) → refusal_number r ≢ 0
+refused_number WrongLength e = absurd (omega arith)
+refused_number BufferTooShort e = absurd (omega arith)
+refused_number UnequalLists e = absurd (omega arith)
+refused_number TooManyPairs e = absurd (omega arith)
+refused_number Differs e = absurd (omega arith)
+
+-- what `?` hands on is the refusal that it met
+pub refused : {A : Type 0} {e : Refusal} (r : Result A Refusal) → IsErrAnd r (λ d. d ≡ e) → (P : Result A Refusal → Type 0) → P (Err e) → P r
+refused r is P p = let met = err_from_is_err_and r is in rw (met.1, met.2) p

@@ -1,18 +1,18 @@
--- Digits one by one: which digit stands at a place, a digit to a finer base as a part of one to a coarser, and an array that is filled from the front with the
--- digits of a number (`filled_digits`). Words and image are the digits of one number (`image_digits`).
+-- Digits one by one: which digit stands at a place, a digit to a finer base as a part of one to a coarser, and a list of all the digits of a number
+-- (`all_digits`). Words and image are the digits of one number (`image_digits`).
 use mathlib.Core.Path.{◌≡◌, refl, sym, ap, ◌∙◌}
 use mathlib.Core.List.{List}
 use Prim.Native.Nat.{ℕ, zero, suc, ◌+◌, ◌-◌, ◌*◌, ◌/◌, ◌%◌, ◌^◌, ◌<◌}
-use native.Mathlib.Nat.{not-suc-le-zero, div-div-eq-div-mul, mod-lt, mul-pos}
-use native.Mathlib.Decide.{dec_lt}
+use native.Mathlib.Nat.{not-suc-le-zero, div-one, div-div-eq-div-mul, mod-lt, mul-pos}
 use native.Mathlib.Omega.{arith}
 use borrow.Kind.Array.{r_arr, e_int, e_int_laws}
 use mir.Syntax.{w64}
 use lib.Arith.{digits_div, digits_mod, mod-mul}
 use lib.Dec.{lit<}
-use lib.ListN.{length, get_or, set, length-set}
+use lib.ListN.{length, get_or}
 use lib.Pow.{pow_pos, pow-add}
-use lib.Seq.{ext_get_or, get_or-set_same, get_or-set_other}
+use lib.Seq.{ext_get_or}
+use Rattle.std.specs.Int.{byte_at, bytes_high_first, to_be_bytes}
 use Rattle.posit.specs.Digits.{digits, InBase}
 use Rattle.posit.specs.Accumulator.{State, bits_of, image, words, from_words}
 use Rattle.posit.proofs.Arith.{pow_sum, pow_mul}
@@ -52,39 +52,37 @@ byte_of_word n j k hj hk =
     ∙ part_of_digit (n / (2 ^ 64) ^ (7 - j)) (2 ^ (56 - 8 * k)) (2 ^ 8) (2 ^ (8 * k)) (pow_pos (56 - 8 * k)) (pow_pos 8) (pow_pos (8 * k))
     ∙ ap (λ (m : ℕ). m % 256) (div-div-eq-div-mul n ((2 ^ 64) ^ (7 - j)) (2 ^ (56 - 8 * k)) ∙ ap (λ (m : ℕ). n / m) place)
 
--- the same of eight words, at place i of the image
-pub byte_is : (ws : List ℕ) (i : ℕ) → length ws ≡ 8 → InBase (2 ^ 64) ws → i < 64 → get_or ws (i / 8) 0 / 2 ^ (56 - 8 * (i % 8)) % 256 ≡ wide ws / 256 ^ (63 - i) % 256
+-- byte k of a word by itself
+byte_of : (n k : ℕ) → byte_at k n ≡ n / 256 ^ k % 256
+byte_of n zero = ap (λ (m : ℕ). m % 256) (sym (div-one n))
+byte_of n (suc k) = refl
+
+high_first : (c n k : ℕ) → k < c → get_or (bytes_high_first c n) k 0 ≡ n / 256 ^ (c - suc k) % 256
+high_first zero n k h = absurd (not-suc-le-zero h)
+high_first (suc c) n zero h =
+    let e : suc c - 1 ≡ c = omega arith in
+    rw e (byte_of n c)
+high_first (suc c) n (suc k) h =
+    let e : suc c - suc (suc k) ≡ c - suc k = omega arith in
+    rw e (high_first c n k (omega arith))
+
+-- byte i of the image is one of its word
+pub byte_is : (ws : List ℕ) (i : ℕ) → length ws ≡ 8 → InBase (2 ^ 64) ws → i < 64 → get_or (to_be_bytes w64 (get_or ws (i / 8) 0)) (i % 8) 0 ≡ wide ws / 256 ^ (63 - i) % 256
 byte_is ws i e b h =
     let all : ws ≡ digits (2 ^ 64) 8 (wide ws) = sym (digits_number (2 ^ 64) (pow_pos 64) ws b) ∙ ap (λ (c : ℕ). digits (2 ^ 64) c (wide ws)) e in
     let places : 8 - suc (i / 8) ≡ 7 - i / 8 = omega arith in
+    let bits : 8 * (8 - suc (i % 8)) ≡ 56 - 8 * (i % 8) = omega arith in
     let whole : 8 * (i / 8) + i % 8 ≡ i = omega arith in
-    ap (λ (l : List ℕ). get_or l (i / 8) 0 / 2 ^ (56 - 8 * (i % 8)) % 256) all
+    high_first 8 (get_or ws (i / 8) 0) (i % 8) (omega arith)
+    ∙ ap (λ (m : ℕ). get_or ws (i / 8) 0 / m % 256) (sym (pow_mul 8 (8 - suc (i % 8))) ∙ ap (λ (m : ℕ). 2 ^ m) bits)
+    ∙ ap (λ (l : List ℕ). get_or l (i / 8) 0 / 2 ^ (56 - 8 * (i % 8)) % 256) all
     ∙ ap (λ (n : ℕ). n / 2 ^ (56 - 8 * (i % 8)) % 256) (digit_at (2 ^ 64) 8 (wide ws) (i / 8) (omega arith) ∙ ap (λ (m : ℕ). wide ws / (2 ^ 64) ^ m % 2 ^ 64) places)
     ∙ byte_of_word (wide ws) (i / 8) (i % 8) (omega arith) (omega arith)
     ∙ ap (λ (m : ℕ). wide ws / 256 ^ (63 - m) % 256) whole
 
--- ---- an array that is filled from the front
-
--- the first i of the n places of r hold what f says
-pub record Filled (f : ℕ → ℕ) (n i : ℕ) (r : List ℕ) : Type 0 where
-  pub long : length r ≡ n
-  pub holds : (k : ℕ) → k < i → get_or r k 0 ≡ f k
-
-pub filled_none : {f : ℕ → ℕ} {n : ℕ} {r : List ℕ} → length r ≡ n → Filled f n 0 r
-filled_none e = record { long = e; holds = λ k h. absurd (not-suc-le-zero h) }
-
-pub filled_more : {f : ℕ → ℕ} {n i : ℕ} {r : List ℕ} (v : ℕ) → Filled f n i r → i < n → v ≡ f i → Filled f n (i + 1) (set r i v)
-filled_more {f} {n} {i} {r} v h l e = record { long = length-set r i v ∙ h.long; holds = λ k s. go k (dec_lt k i) s }
-  where
-    go : (k : ℕ) → Dec (k < i) → k < i + 1 → get_or (set r i v) k 0 ≡ f k
-    go k (yes p) s = get_or-set_other r i k v 0 (λ q. omega arith) ∙ h.holds k p
-    go k (no p) s =
-        let at : k ≡ i = omega arith in
-        rw at (get_or-set_same r i v 0 (rw h.long l) ∙ e)
-
-pub filled_digits : (B n x : ℕ) (r : List ℕ) → Filled (λ (k : ℕ). x / B ^ (n - suc k) % B) n n r → r ≡ digits B n x
-filled_digits B n x r h =
-    ext_get_or 0 r (digits B n x) (h.long ∙ sym (length_digits B n x)) (λ i l. let s : i < n = rw h.long at l in h.holds i s ∙ sym (digit_at B n x i s))
+-- digit by digit, all of them
+pub all_digits : (B n x : ℕ) (r : List ℕ) → length r ≡ n → ((k : ℕ) → k < n → get_or r k 0 ≡ x / B ^ (n - suc k) % B) → r ≡ digits B n x
+all_digits B n x r e h = ext_get_or 0 r (digits B n x) (e ∙ sym (length_digits B n x)) (λ i l. let s : i < n = rw e at l in h i s ∙ sym (digit_at B n x i s))
 
 -- ---- the image
 

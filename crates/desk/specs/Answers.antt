@@ -1,30 +1,21 @@
--- The number that each answer of the desk stands for (5), 0 where nothing is refused.
-use Rattle.std.specs.Prelude.{ℕ}
-use Rattle.desk.specs.declared.image.WriteAnswer.{WriteAnswer}
-use Rattle.desk.specs.declared.image.WriteAnswer.TheVariants.{Written, BufferTooShort}
-use Rattle.desk.specs.declared.image.ReadAnswer.{ReadAnswer}
-use Rattle.desk.specs.declared.image.ReadAnswer.TheVariants.{Read, WrongLength}
-use Rattle.desk.specs.declared.batch.BatchAnswer.{BatchAnswer}
-use Rattle.desk.specs.declared.batch.BatchAnswer.TheVariants as of_batch
-use Rattle.desk.specs.declared.claim.ClaimAnswer.{ClaimAnswer}
-use Rattle.desk.specs.declared.claim.ClaimAnswer.TheVariants as of_claim
+-- What an answer of the desk comes to: the number that it stands for (5), 0 where nothing is refused, and the words that a caller then holds.
+use Rattle.std.specs.Prelude.{List, ℕ, Result, Ok, Err}
+use Rattle.posit.specs.Accumulator.{State, words}
+use Rattle.desk.specs.declared.refusal.Refusal.{Refusal}
+use Rattle.desk.specs.declared.refusal.Refusal.TheVariants.{WrongLength, BufferTooShort, UnequalLists, TooManyPairs, Differs}
 
-abbrev pub write_number : WriteAnswer → ℕ
-write_number Written = 0
-write_number BufferTooShort = 2
+abbrev pub refusal_number : Refusal → ℕ
+refusal_number WrongLength = 1
+refusal_number BufferTooShort = 2
+refusal_number UnequalLists = 3
+refusal_number TooManyPairs = 4
+refusal_number Differs = 5
 
-abbrev pub read_number : ReadAnswer → ℕ
-read_number Read = 0
-read_number WrongLength = 1
+abbrev pub number_of : {A : Type 0} → Result A Refusal → ℕ
+number_of (Ok x) = 0
+number_of (Err r) = refusal_number r
 
-abbrev pub batch_number : BatchAnswer → ℕ
-batch_number of_batch.Added = 0
-batch_number of_batch.UnequalLists = 3
-batch_number of_batch.TooManyPairs = 4
-
-abbrev pub claim_number : ClaimAnswer → ℕ
-claim_number of_claim.Right = 0
-claim_number of_claim.UnequalLists = 3
-claim_number of_claim.TooManyPairs = 4
-claim_number of_claim.WrongLength = 1
-claim_number of_claim.Differs = 5
+-- the words of an accumulator that was in the state s: those of the answer, or, where it was refused, those of s
+abbrev pub after : ℕ → State → Result (List ℕ) Refusal → List ℕ
+after bits s (Ok ws) = ws
+after bits s (Err r) = words bits s

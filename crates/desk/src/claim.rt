@@ -2,52 +2,24 @@
 ghost use Rattle.std.specs.Prelude.{◌≡◌, length};
 ghost use Rattle.posit.specs.Digits.{same};
 ghost use Rattle.desk.specs.Desk.{claim_refusal};
-ghost use Rattle.desk.specs.Answers.{claim_number};
+ghost use Rattle.desk.specs.Answers.{number_of};
 
-use super::batch::{PAIR_LIMIT, sum_of};
+use super::batch::{admitted, sum_of};
 use super::image::{IMAGE_LENGTH, image_of};
+use super::refusal::Refusal;
 
-#[derive(Clone, Copy)]
-pub enum ClaimAnswer {
-    Right,
-    UnequalLists,
-    TooManyPairs,
-    WrongLength,
-    Differs,
-}
-
-impl ClaimAnswer {
-    // The number of the refusal, 0 for a claim that is right.
-    pub fn number(self) -> u32
-        ensures { result ≡ claim_number self }
-    {
-        match self {
-            ClaimAnswer::Right => 0,
-            ClaimAnswer::UnequalLists => 3,
-            ClaimAnswer::TooManyPairs => 4,
-            ClaimAnswer::WrongLength => 1,
-            ClaimAnswer::Differs => 5,
-        }
-    }
-}
-
-pub fn check_claim(a: &[u32], b: &[u32], claim: &[u8]) -> ClaimAnswer
-    ensures { claim_number result ≡ claim_refusal 2 31 512 a.now b.now claim.now }
+pub fn check_claim(a: &[u32], b: &[u32], claim: &[u8]) -> Result<(), Refusal>
+    ensures { number_of result ≡ claim_refusal 2 31 512 a.now b.now claim.now }
 {
-    if a.len() != b.len() {
-        return ClaimAnswer::UnequalLists;
-    }
-    if PAIR_LIMIT < a.len() {
-        return ClaimAnswer::TooManyPairs;
-    }
+    admitted(a, b)?;
     if claim.len() != IMAGE_LENGTH {
-        return ClaimAnswer::WrongLength;
+        return Err(Refusal::WrongLength);
     }
     let rebuilt = image_of(sum_of([0; 8], a, b));
     if !is_same(rebuilt, claim) {
-        return ClaimAnswer::Differs;
+        return Err(Refusal::Differs);
     }
-    ClaimAnswer::Right
+    Ok(())
 }
 
 // Every byte is compared, whatever the first ones say.
@@ -55,11 +27,8 @@ fn is_same(image: [u8; 64], claim: &[u8]) -> bool
     requires { length claim.now ≡ 64 }
     ensures { result ≡ same image claim.now }
 {
-    let mut equal = true;
-    let mut i: usize = 0;
-    while i < IMAGE_LENGTH {
-        equal = equal & (image[i] == claim[i]);
-        i += 1;
-    }
-    equal
+    image
+        .iter()
+        .zip(claim)
+        .fold(true, |equal, (x, y)| equal & (x == y))
 }

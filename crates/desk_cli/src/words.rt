@@ -1,40 +1,110 @@
-// What is printed: one line, on standard output.
-use super::lines::NOT_A_CLAIM;
-use std::io;
-use std::io::Write;
+// What is printed: one line, the answer or what is wrong.
+use desk::refusal::Refusal;
+use std::alloc::AllocError;
+use std::{fmt, io};
 
-pub(crate) fn say(rt: &impl Print, words: &[u8]) -> io::Result<()> {
-    let mut out = io::writer(rt);
-    out.write_all(words)?;
-    out.write_all(b"\n")
+// What there is to say where nothing is wrong: that the claim is right, or the image of the batch.
+#[derive(Drop)]
+pub enum Answer {
+    Right,
+    Image([u8; 64]),
 }
 
-// What is wrong with a line of the input.
-pub(crate) fn say_of_line(rt: &impl Print, line: usize, words: &[u8]) -> io::Result<()> {
-    print!(rt; "line {line}: ")?;
-    say(rt, words)
-}
-
-// What is wrong with the line where a claim was looked for.
-pub(crate) fn say_fault(rt: &impl Print, line: usize, fault: u8) -> io::Result<()> {
-    if fault == NOT_A_CLAIM {
-        say_of_line(rt, line, b"not a pair of patterns, nor a claim")
-    } else {
-        say_of_line(
-            rt,
-            line,
-            b"the claim is not two hexadecimal digits to a byte",
-        )
+impl fmt::Display for Answer {
+    fn fmt<W: fmt::Write>(&self, f: &mut fmt::Formatter<W>) -> fmt::Result {
+        match self {
+            Answer::Right => write!(f, "right"),
+            Answer::Image(image) => {
+                for byte in image {
+                    write!(f, "{byte:02x}")?;
+                }
+                Ok(())
+            }
+        }
     }
 }
 
-// The desk's answer: its number and the reason, or `right` for none.
-pub(crate) fn say_number(rt: &impl Print, number: u32) -> io::Result<()> {
-    match number {
-        0 => say(rt, b"right"),
-        1 => say(rt, b"1: the claim is not 64 bytes long"),
-        3 => say(rt, b"3: the lists differ in length"),
-        4 => say(rt, b"4: more than 16384 pairs"),
-        _ => say(rt, b"5: the claim differs from the rebuilt image"),
+// What is wrong with a line of the input.
+#[derive(Clone, Copy)]
+pub enum Fault {
+    NoWord,
+    NotPair,
+    NotClaim,
+    NotBytes,
+    NoClaim,
+    TextAfterClaim,
+}
+
+impl Fault {
+    pub(crate) fn in_line(self, line: usize) -> Trouble {
+        Trouble::InLine(line, self)
+    }
+}
+
+impl fmt::Display for Fault {
+    fn fmt<W: fmt::Write>(&self, f: &mut fmt::Formatter<W>) -> fmt::Result {
+        f.write_str(match self {
+            Fault::NoWord => "neither the word claim nor the word image",
+            Fault::NotPair => "not a pair of patterns",
+            Fault::NotClaim => "not a pair of patterns, nor a claim",
+            Fault::NotBytes => "the claim is not two hexadecimal digits to a byte",
+            Fault::NoClaim => "no claim",
+            Fault::TextAfterClaim => "text after the claim",
+        })
+    }
+}
+
+// Why there is no answer. Lines are numbered from 1.
+#[derive(Drop)]
+pub enum Trouble {
+    NotRead,
+    TooLong,
+    OutOfMemory,
+    InLine(usize, Fault),
+    Refused(Refusal),
+}
+
+impl fmt::Display for Trouble {
+    fn fmt<W: fmt::Write>(&self, f: &mut fmt::Formatter<W>) -> fmt::Result {
+        match self {
+            Trouble::NotRead => write!(f, "the input could not be read to its end"),
+            Trouble::TooLong => write!(f, "the input is longer than 400000 bytes"),
+            Trouble::OutOfMemory => write!(f, "out of memory"),
+            Trouble::InLine(line, fault) => write!(f, "line {line}: {fault}"),
+            Trouble::Refused(refusal) => {
+                let number = refusal.number();
+                let reason = reason(*refusal);
+                write!(f, "{number}: {reason}")
+            }
+        }
+    }
+}
+
+// The input is all that is read.
+impl From<io::Error> for Trouble {
+    fn from(_: io::Error) -> Trouble {
+        Trouble::NotRead
+    }
+}
+
+impl From<AllocError> for Trouble {
+    fn from(_: AllocError) -> Trouble {
+        Trouble::OutOfMemory
+    }
+}
+
+impl From<Refusal> for Trouble {
+    fn from(refusal: Refusal) -> Trouble {
+        Trouble::Refused(refusal)
+    }
+}
+
+fn reason(refusal: Refusal) -> &'static str {
+    match refusal {
+        Refusal::WrongLength => "the claim is not 64 bytes long",
+        Refusal::BufferTooShort => "the buffer is under 64 bytes",
+        Refusal::UnequalLists => "the lists differ in length",
+        Refusal::TooManyPairs => "more than 16384 pairs",
+        Refusal::Differs => "the claim differs from the rebuilt image",
     }
 }

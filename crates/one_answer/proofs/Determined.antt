@@ -12,8 +12,10 @@ use mir.Syntax.{w64}
 use mir.Val.{bool_byte}
 use lib.Dec.{eqb}
 use lib.Pow.{pow_pos, pow_mono, pow-add, shl_lt, shl-shr}
+use Rattle.std.specs.Prelude.{Result, Ok, Err}
 use Rattle.posit.specs.Pattern.{nar, unsigned}
 use Rattle.posit.specs.Digits.{digits}
+use Rattle.posit.specs.Accumulator.{State}
 use Rattle.posit.proofs.Digits.{digits_number}
 use Rattle.unpacking.specs.Parts.{Parts, is_zero, is_nar, is_real}
 use Rattle.unpacking.specs.Unpacked.{meaning}
@@ -23,15 +25,10 @@ use Rattle.unpacking.specs.declared.Unpacked.TheVariants.{Zero, NaR, Real}
 use Rattle.p32e2.specs.declared.P32E2.{P32E2}
 use Rattle.quire_words.specs.Words.{wide}
 use Rattle.quire_words.proofs.Places.{words_typed}
-use Rattle.desk.specs.Answers.{write_number, read_number, batch_number, claim_number}
-use Rattle.desk.specs.declared.image.WriteAnswer.{WriteAnswer}
-use Rattle.desk.specs.declared.image.WriteAnswer.TheVariants.{Written, BufferTooShort}
-use Rattle.desk.specs.declared.image.ReadAnswer.{ReadAnswer}
-use Rattle.desk.specs.declared.image.ReadAnswer.TheVariants.{Read, WrongLength}
-use Rattle.desk.specs.declared.batch.BatchAnswer.{BatchAnswer}
-use Rattle.desk.specs.declared.batch.BatchAnswer.TheVariants as of_batch
-use Rattle.desk.specs.declared.claim.ClaimAnswer.{ClaimAnswer}
-use Rattle.desk.specs.declared.claim.ClaimAnswer.TheVariants as of_claim
+use Rattle.desk.specs.Answers.{refusal_number, number_of, after}
+use Rattle.desk.specs.declared.refusal.Refusal.{Refusal}
+use Rattle.desk.specs.declared.refusal.Refusal.TheVariants.{WrongLength, BufferTooShort, UnequalLists, TooManyPairs, Differs}
+use Rattle.desk.proofs.Refused.{refused_number}
 
 -- what can be had back from its meaning is determined by it
 determined : {A B : Type 0} (f : A → B) (g : B → A) → ((x : A) → g (f x) ≡ x) → (x y : A) → f x ≡ f y → x ≡ y
@@ -115,40 +112,23 @@ same_posits (p ∷ x) (q ∷ y) e =
     ap₂ ◌∷◌ (λ i. record { 0 = first i }) (same_posits x y rest)
 
 -- ---- the desk's answers, by their numbers
-write_back : (x : WriteAnswer) → cond (eqb (write_number x) 0) Written BufferTooShort ≡ x
-write_back Written = refl
-write_back BufferTooShort = refl
+abbrev of_number : ℕ → Refusal
+of_number n = cond (eqb n 1) WrongLength (cond (eqb n 2) BufferTooShort (cond (eqb n 3) UnequalLists (cond (eqb n 4) TooManyPairs Differs)))
 
-pub write_answer : (x y : WriteAnswer) → write_number x ≡ write_number y → x ≡ y
-write_answer = determined write_number (λ n. cond (eqb n 0) Written BufferTooShort) write_back
+refusal_back : (r : Refusal) → of_number (refusal_number r) ≡ r
+refusal_back WrongLength = refl
+refusal_back BufferTooShort = refl
+refusal_back UnequalLists = refl
+refusal_back TooManyPairs = refl
+refusal_back Differs = refl
 
-read_back : (x : ReadAnswer) → cond (eqb (read_number x) 0) Read WrongLength ≡ x
-read_back Read = refl
-read_back WrongLength = refl
+-- where nothing is refused, what is answered has to be determined besides
+pub desk_answer : {A : Type 0} (x y : Result A Refusal) → number_of x ≡ number_of y → ((u v : A) → x ≡ Ok u → y ≡ Ok v → u ≡ v) → x ≡ y
+desk_answer (Ok u) (Ok v) e one = ap Ok (one u v refl refl)
+desk_answer (Ok u) (Err r) e one = absurd (refused_number r (sym e))
+desk_answer (Err r) (Ok v) e one = absurd (refused_number r e)
+desk_answer (Err r) (Err s) e one = ap Err (determined refusal_number of_number refusal_back r s e)
 
-pub read_answer : (x y : ReadAnswer) → read_number x ≡ read_number y → x ≡ y
-read_answer = determined read_number (λ n. cond (eqb n 0) Read WrongLength) read_back
-
-abbrev of_batch_number : ℕ → BatchAnswer
-of_batch_number n = cond (eqb n 0) of_batch.Added (cond (eqb n 3) of_batch.UnequalLists of_batch.TooManyPairs)
-
-batch_back : (x : BatchAnswer) → of_batch_number (batch_number x) ≡ x
-batch_back of_batch.Added = refl
-batch_back of_batch.UnequalLists = refl
-batch_back of_batch.TooManyPairs = refl
-
-pub batch_answer : (x y : BatchAnswer) → batch_number x ≡ batch_number y → x ≡ y
-batch_answer = determined batch_number of_batch_number batch_back
-
-abbrev of_claim_number : ℕ → ClaimAnswer
-of_claim_number n = cond (eqb n 0) of_claim.Right (cond (eqb n 3) of_claim.UnequalLists (cond (eqb n 4) of_claim.TooManyPairs (cond (eqb n 1) of_claim.WrongLength of_claim.Differs)))
-
-claim_back : (x : ClaimAnswer) → of_claim_number (claim_number x) ≡ x
-claim_back of_claim.Right = refl
-claim_back of_claim.UnequalLists = refl
-claim_back of_claim.TooManyPairs = refl
-claim_back of_claim.WrongLength = refl
-claim_back of_claim.Differs = refl
-
-pub claim_answer : (x y : ClaimAnswer) → claim_number x ≡ claim_number y → x ≡ y
-claim_answer = determined claim_number of_claim_number claim_back
+-- by value it is, by the words that an accumulator in the state q then has
+pub desk_words : (q : State) (x y : Result (List ℕ) Refusal) → number_of x ≡ number_of y → after 512 q x ≡ after 512 q y → x ≡ y
+desk_words q x y e k = desk_answer x y e (λ u v h i. sym (ap (after 512 q) h) ∙ k ∙ ap (after 512 q) i)

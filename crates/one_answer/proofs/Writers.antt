@@ -10,7 +10,7 @@ use lib.ListN.{take, replicate}
 use Rattle.posit.specs.Digits.{InBase}
 use Rattle.posit.specs.Accumulator.{clear}
 use Rattle.posit.proofs.Computing.{everything}
-use Rattle.desk.specs.declared.image.WriteAnswer.TheVariants.{Written}
+use Rattle.std.specs.Prelude.{Ok}
 use Rattle.desk.specs.contracts.image.write_image as of_write
 use Rattle.desk.proofs.image.write_image as write
 use Rattle.desk.proofs.Refused.{buffer_wide}
@@ -86,4 +86,4 @@ pub desk_write_image_not_idle_by_totals : Excluded desk_write_image_fixes (λ e.
 desk_write_image_not_idle_by_totals = record { met = writer_tells_totals; some = (idle, λ κs m q b. refl); refuted = idle_writer_fails }
   where
     idle : WriteEngine
-    idle κs a = (Written, (tt, (a.1.0.now, tt)))
+    idle κs a = (Ok tt, (tt, (a.1.0.now, tt)))

@@ -11,17 +11,14 @@ use Rattle.posit.specs.Digits.{number}
 use Rattle.posit.specs.Accumulator.{words, from_words}
 use Rattle.desk.specs.Desk.{after_batch}
 use Rattle.quire_words.specs.Words.{wide}
-use Rattle.desk.specs.Answers.{write_number, read_number, batch_number, claim_number}
-use Rattle.desk.specs.declared.image.WriteAnswer.TheVariants as write
-use Rattle.desk.specs.declared.image.ReadAnswer.TheVariants as read
-use Rattle.desk.specs.declared.batch.BatchAnswer.TheVariants as batch
-use Rattle.desk.specs.declared.claim.ClaimAnswer.TheVariants as claim
+use Rattle.desk.specs.Answers.{number_of, after}
+use Rattle.desk.specs.declared.refusal.Refusal.TheVariants.{WrongLength, Differs}
 use Rattle.one_answer.specs.Engines.{NoConstant, NotAlways, Never, NotAsking, NotAskingLent}
 use Rattle.one_answer.proofs.Engines.{differ, constant_fails, always_fails, never, asking_fails, asking_lent_fails}
 use Rattle.one_answer.proofs.Arguments.{bits, to, eight, bytes, held, lent, to_mut, lent_mut}
 use Rattle.one_answer.proofs.Arithmetic.{p32e2_neg_fixes, p32e2_add_fixes, p32e2_sub_fixes, p32e2_mul_fixes, p32e2_div_fixes, p32e2_recip_fixes, p32e2_sqrt_fixes, p32e2_mul_add_fixes, p32e2_mul_sub_fixes, p32e2_sub_product_fixes}
 use Rattle.one_answer.proofs.Accumulator.{quire_steps_add_product_fixes, quire_steps_sub_product_fixes, quire_steps_add_posit_fixes, quire_steps_sub_posit_fixes, quire_steps_neg_fixes, quire_steps_q_add_q_fixes, quire_steps_q_sub_q_fixes, quire_steps_from_posit_fixes, quire_totals_to_posit_fixes, quire32_add_product_fixes, quire32_sub_product_fixes, quire32_add_posit_fixes, quire32_sub_posit_fixes, quire32_q_add_q_fixes, quire32_q_sub_q_fixes}
-use Rattle.one_answer.proofs.Desk.{desk_image_of_fixes, desk_write_image_fixes, desk_read_image_fixes, desk_add_batch_fixes, desk_check_claim_fixes, desk_write_number_fixes, desk_read_number_fixes, desk_batch_number_fixes, desk_claim_number_fixes, desk_lent_write_image_fixes, desk_lent_read_image_fixes, desk_lent_add_batch_fixes}
+use Rattle.one_answer.proofs.Desk.{desk_image_of_fixes, desk_write_image_fixes, desk_read_image_fixes, desk_add_batch_fixes, desk_check_claim_fixes, desk_number_fixes, desk_lent_write_image_fixes, desk_lent_read_image_fixes, desk_lent_add_batch_fixes}
 use Rattle.one_answer.proofs.Linked.{capi_neg_fixes}
 
 -- ---- the same every time: NaR, or a posit, or anything else
@@ -98,37 +95,28 @@ unfolding everything
 desk_image_of_not_constant = constant_fails _ (λ κs a x u p. ap (number 256) p) tt (eight 0, tt) (eight 1, tt) tt tt tt
 
 -- ---- the same number of the desk every time, 0 or another
-pub desk_write_image_not_constant : NoConstant desk_write_image_fixes (λ κs a r u. write_number r)
+pub desk_write_image_not_constant : NoConstant desk_write_image_fixes (λ κs a r u. number_of r)
 unfolding everything
 desk_write_image_not_constant = constant_fails _ (λ κs a x u p. p.0) ([], tt) (eight 0, (to_mut [], tt)) (eight 0, (to_mut (bytes 0), tt)) tt tt tt
 
-pub desk_read_image_not_constant : NoConstant desk_read_image_fixes (λ κs a r u. read_number r.answer)
+pub desk_read_image_not_constant : NoConstant desk_read_image_fixes (λ κs a r u. number_of r)
 unfolding everything
 desk_read_image_not_constant = constant_fails _ (λ κs a x u p. p.0) ([], tt) (eight 0, (to [], tt)) (eight 0, (to (bytes 0), tt)) tt tt tt
 
-pub desk_add_batch_not_constant : NoConstant desk_add_batch_fixes (λ κs a r u. batch_number r.answer)
+pub desk_add_batch_not_constant : NoConstant desk_add_batch_fixes (λ κs a r u. number_of r)
 unfolding everything
 desk_add_batch_not_constant = constant_fails _ (λ κs a x u p. p.0) ([], ([], tt)) (eight 0, (to [], (to [], tt))) (eight 0, (to (0 ∷ []), (to [], tt))) tt tt tt
 
-pub desk_check_claim_not_constant : NoConstant desk_check_claim_fixes (λ κs a r u. claim_number r)
+pub desk_check_claim_not_constant : NoConstant desk_check_claim_fixes (λ κs a r u. number_of r)
 unfolding everything
 desk_check_claim_not_constant = constant_fails _ (λ κs a x u p. p) ([], ([], ([], tt))) (to [], (to [], (to (bytes 0), tt))) (to [], (to [], (to [], tt))) tt tt tt
 
--- the same number for every answer of the desk
-pub desk_write_number_not_constant : NoConstant desk_write_number_fixes (λ κs a r u. r)
-desk_write_number_not_constant = constant_fails _ (λ κs a x u p. p) tt (write.Written, tt) (write.BufferTooShort, tt) tt tt tt
-
-pub desk_read_number_not_constant : NoConstant desk_read_number_fixes (λ κs a r u. r)
-desk_read_number_not_constant = constant_fails _ (λ κs a x u p. p) tt (read.Read, tt) (read.WrongLength, tt) tt tt tt
-
-pub desk_batch_number_not_constant : NoConstant desk_batch_number_fixes (λ κs a r u. r)
-desk_batch_number_not_constant = constant_fails _ (λ κs a x u p. p) tt (batch.Added, tt) (batch.UnequalLists, tt) tt tt tt
-
-pub desk_claim_number_not_constant : NoConstant desk_claim_number_fixes (λ κs a r u. r)
-desk_claim_number_not_constant = constant_fails _ (λ κs a x u p. p) tt (claim.Right, tt) (claim.Differs, tt) tt tt tt
+-- the same number for every refusal
+pub desk_number_not_constant : NoConstant desk_number_fixes (λ κs a r u. r)
+desk_number_not_constant = constant_fails _ (λ κs a x u p. p) tt (WrongLength, tt) (Differs, tt) tt tt tt
 
 -- ---- a claim check that accepts every claim of the right length
-pub desk_check_claim_not_lax : NotAlways desk_check_claim_fixes (λ κs a r u. claim_number r) (λ κs a. length a.1.1.0.now ≡ 64) (λ κs a. 0)
+pub desk_check_claim_not_lax : NotAlways desk_check_claim_fixes (λ κs a r u. number_of r) (λ κs a. length a.1.1.0.now ≡ 64) (λ κs a. 0)
 unfolding everything
 desk_check_claim_not_lax = always_fails _ (λ κs a x u p. p) ([], ([], ([], tt))) (to [], (to [], (to (bytes 1), tt))) tt refl tt
 
@@ -182,11 +170,11 @@ unfolding everything quire32_q_sub_q_fixes
 quire32_q_sub_q_not_idle = always_fails _ (λ κs a x u p. ap wide p) ([], tt) (lent_mut 1, (held 1, tt)) tt tt tt
 
 -- ---- a batch that adds nothing, or the first pair only
-pub desk_add_batch_not_idle : Never desk_add_batch_fixes (λ κs a r u. wide r.words) (λ κs a. wide a.0)
+pub desk_add_batch_not_idle : Never desk_add_batch_fixes (λ κs a r u. wide (after 512 (from_words 512 a.0) r)) (λ κs a. wide a.0)
 unfolding everything
 desk_add_batch_not_idle = never _ (λ κs a x u p. ap wide p.1) ([], ([], tt)) (eight 0, (to (1 ∷ 1 ∷ []), (to (1 ∷ 1 ∷ []), tt))) tt tt
 
-pub desk_add_batch_not_first_only : Never desk_add_batch_fixes (λ κs a r u. wide r.words) (λ κs a. wide (words 512 (after_batch 2 31 512 (from_words 512 a.0) (take 1 a.1.0.now) (take 1 a.1.1.0.now))))
+pub desk_add_batch_not_first_only : Never desk_add_batch_fixes (λ κs a r u. wide (after 512 (from_words 512 a.0) r)) (λ κs a. wide (words 512 (after_batch 2 31 512 (from_words 512 a.0) (take 1 a.1.0.now) (take 1 a.1.1.0.now))))
 unfolding everything
 desk_add_batch_not_first_only = never _ (λ κs a x u p. ap wide p.1) ([], ([], tt)) (eight 0, (to (1 ∷ 1 ∷ []), (to (1 ∷ 1 ∷ []), tt))) tt tt
 
@@ -195,7 +183,7 @@ pub desk_write_image_not_idle : Never desk_write_image_fixes (λ κs a r u. numb
 unfolding everything
 desk_write_image_not_idle = never _ (λ κs a x u p. ap (number 256) p.1) ([], tt) (eight 0, (to_mut (bytes 1), tt)) tt tt
 
-pub desk_read_image_not_idle : Never desk_read_image_fixes (λ κs a r u. wide r.words) (λ κs a. wide a.0)
+pub desk_read_image_not_idle : Never desk_read_image_fixes (λ κs a r u. wide (after 512 (from_words 512 a.0) r)) (λ κs a. wide a.0)
 unfolding everything
 desk_read_image_not_idle = never _ (λ κs a x u p. ap wide p.1) ([], tt) (eight 0, (to (bytes 1), tt)) tt tt
 

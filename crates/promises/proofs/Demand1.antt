@@ -9,7 +9,7 @@ use lib.ListN.{length, drop}
 use Rattle.posit.specs.Digits.{InBase}
 use Rattle.posit.specs.Accumulator.{clear, is_clear, is_not_real, of_posit, negated, to_posit, words, from_words}
 use Rattle.desk.specs.Desk.{written_to, read_into, after_batch}
-use Rattle.desk.specs.Answers.{write_number, read_number, batch_number, claim_number}
+use Rattle.desk.specs.declared.refusal.Refusal.TheVariants.{WrongLength, BufferTooShort, UnequalLists, TooManyPairs, Differs}
 use Rattle.desk.specs.contracts as of_desk
 use Rattle.capi.specs.contracts as of_capi
 use Rattle.promises.specs.Contract.{Untouched}
@@ -23,7 +23,7 @@ use Rattle.promises.proofs.Typed.{words_typed, words_back, written_typed}
 use Rattle.promises.proofs.Said.{brought, shifted, begun_met, moved_met, negated_met, dropped_met, zero_met, nar_met, writes_says, writes_met, reads_says, reads_met, adds_says, adds_met, claims_says, claims_met}
 use Rattle.promises.proofs.Told.{answer_of, done_met, done_offered, made_met, total_met}
 use Rattle.promises.proofs.Rounded.{told_pattern, total_pattern}
-use Rattle.promises.proofs.Refusals.{just_due, buffer_due, bytes_due, batch_due, claim_due, unwritten, rest_unwritten, unread, unadded, write_answer, read_answer, batch_answer, claim_answer}
+use Rattle.promises.proofs.Refusals.{just_due, buffer_due, bytes_due, batch_due, claim_due, unwritten, rest_unwritten, unread, unadded, numbered}
 
 -- ---- "every 32-bit pattern, accumulator and slice gets an answer": there is one that meets the contract and has its type, by every way in, for the operations, for an accumulator
 -- that is made, begun, moved by a posit, a product or another accumulator, negated, freed of its sign, rounded and asked, and for the desk
@@ -60,22 +60,24 @@ accumulators_say_whether_nar way q = (is_not_real (from_words 512 q), nar_met wa
 
 pub buffers_get_an_answer : (way : Way) (q b : List ℕ) → InBase 256 b → (n : ℕ) × (c : List ℕ) × InBase 256 c × Writing way q b n c
 buffers_get_an_answer way q b t =
-    let x = write_answer b in
-    (write_number x.0, written_to 512 (from_words 512 q) b, written_typed (from_words 512 q) b t, writes_met way q b x.0 x.1)
+    let n = numbered (write_rows b) ((BufferTooShort, refl), tt) _ (buffer_due b) in
+    (_, written_to 512 (from_words 512 q) b, written_typed (from_words 512 q) b t, writes_met way q b _ n refl)
 
 pub bytes_get_an_answer : (way : Way) (q bs : List ℕ) → (n : ℕ) × (r : List ℕ) × EightWords r × Reading way q bs n r
 bytes_get_an_answer way q bs =
-    let x = read_answer bs in
-    (read_number x.0, words 512 (read_into 512 (from_words 512 q) bs), words_typed _, reads_met way q bs x.0 x.1)
+    let n = numbered (read_rows bs) ((WrongLength, refl), tt) _ (bytes_due bs) in
+    (_, words 512 (read_into 512 (from_words 512 q) bs), words_typed _, reads_met way q bs _ n refl)
 
 pub batches_get_an_answer : (way : Way) (q xs ys : List ℕ) → (n : ℕ) × (r : List ℕ) × EightWords r × Adding way q xs ys n r
 batches_get_an_answer way q xs ys =
-    let x = batch_answer xs ys in
-    (batch_number x.0, words 512 (after_batch 2 31 512 (from_words 512 q) xs ys), words_typed _, adds_met way q xs ys x.0 x.1)
+    let n = numbered (batch_rows xs ys) ((UnequalLists, refl), ((TooManyPairs, refl), tt)) _ (batch_due xs ys) in
+    (_, words 512 (after_batch 2 31 512 (from_words 512 q) xs ys), words_typed _, adds_met way q xs ys _ n refl)
 
 -- by value and for C
 pub claims_get_an_answer : (way : Way) → way ≢ lent → (xs ys cs : List ℕ) → (n : ℕ) × Claiming way xs ys cs n
-claims_get_an_answer way o xs ys cs = let x = claim_answer xs ys cs in (claim_number x.0, claims_met way o xs ys cs x.0 x.1)
+claims_get_an_answer way o xs ys cs =
+    let n = numbered (claim_rows xs ys cs) ((UnequalLists, refl), ((TooManyPairs, refl), ((WrongLength, refl), ((Differs, refl), tt)))) _ (claim_due xs ys cs) in
+    (_, claims_met way o xs ys cs _ n refl)
 
 -- ---- "a wrong length, an oversized batch or a false claim gets its number": each exactly when its row says so, and the first in the order 3, 4, 1, 5
 

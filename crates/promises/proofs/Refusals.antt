@@ -1,7 +1,7 @@
 -- The desk's numbers, as its definitions compute them, are those that its rows give in their order (`batch_due`, `claim_due` and the like), and by rows just one number is due
 -- (`just_due`).
 use mathlib.Core.Path.{◌≡◌, refl, sym, ap, subst, ◌∙◌}
-use mathlib.Core.Logic.{◌≢◌, ◌↔◌, inl, inr}
+use mathlib.Core.Logic.{◌≢◌, ◌↔◌, ◌⊎◌, inl, inr}
 use mathlib.Core.Bool.{Bool, true, false, ◌&&◌}
 use mathlib.Core.List.{List, [], ◌∷◌}
 use Prim.Native.Nat.{ℕ, ◌<◌}
@@ -10,22 +10,16 @@ use native.Mathlib.Omega.{arith}
 use lib.Dec.{T, eqb, eqb_refl}
 use lib.ListN.{length, drop}
 use lib.Seq.{length-take-le, length_front, drop_at}
+use Rattle.std.specs.Prelude.{Result, Ok, Err}
 use Rattle.posit.specs.Digits.{same}
-use Rattle.posit.specs.Accumulator.{State, clear, image}
+use Rattle.posit.specs.Accumulator.{State, clear, image, words}
 use Rattle.desk.specs.Batch.{batch}
-use Rattle.desk.specs.Answers.{write_number, read_number, batch_number, claim_number}
-use Rattle.desk.specs.declared.image.WriteAnswer.{WriteAnswer}
-use Rattle.desk.specs.declared.image.WriteAnswer.TheVariants as of_write
-use Rattle.desk.specs.declared.image.ReadAnswer.{ReadAnswer}
-use Rattle.desk.specs.declared.image.ReadAnswer.TheVariants as of_read
-use Rattle.desk.specs.declared.batch.BatchAnswer.{BatchAnswer}
-use Rattle.desk.specs.declared.batch.BatchAnswer.TheVariants as of_batch
-use Rattle.desk.specs.declared.claim.ClaimAnswer.{ClaimAnswer}
-use Rattle.desk.specs.declared.claim.ClaimAnswer.TheVariants as of_claim
+use Rattle.desk.specs.Answers.{refusal_number, number_of, after}
+use Rattle.desk.specs.declared.refusal.Refusal.{Refusal}
 use Rattle.desk.specs.Desk.{pair_limit, length_refusal, buffer_refusal, batch_refusal, claim_refusal, written_to, read_into, after_batch}
 use Rattle.posit.proofs.Digits.{same_equal}
 use Rattle.desk.proofs.Spelt.{image_long}
-use Rattle.desk.proofs.Refused.{unequal, too_many, no_refusal, batch_refused, claim_refused, claim_of_other_length, claim_compared, buffer_short, buffer_wide, other_length, right_length}
+use Rattle.desk.proofs.Refused.{unequal, too_many, no_refusal, batch_refused, refused_number, claim_refused, claim_of_other_length, claim_compared, buffer_short, buffer_wide, other_length, right_length}
 use Rattle.promises.specs.Rows.{Row, Due, JustDue, not_of64_bytes, unequal_lists, too_many_pairs, other_image, write_rows, read_rows, batch_rows, claim_rows}
 
 -- ---- just one number is due
@@ -132,37 +126,32 @@ unadded q xs ys o = batch_refused xs ys q (batch_refusal xs ys) refl o
 
 -- ---- each number that is due is that of an answer
 
-pub write_answer : (b : List ℕ) → (x : WriteAnswer) × (write_number x ≡ buffer_refusal 512 b)
-write_answer b = go (buffer_due b)
-  where
-    go : Due (write_rows b) (buffer_refusal 512 b) → (x : WriteAnswer) × (write_number x ≡ buffer_refusal 512 b)
-    go (inl (_, e)) = (of_write.BufferTooShort, sym e)
-    go (inr (_, e)) = (of_write.Written, sym e)
+-- n is the number of no refusal, or of one
+abbrev pub Numbered : ℕ → Type 0
+Numbered n = (n ≡ 0) ⊎ ((r : Refusal) × (refusal_number r ≡ n))
 
-pub read_answer : (bs : List ℕ) → (x : ReadAnswer) × (read_number x ≡ length_refusal 512 bs)
-read_answer bs = go (bytes_due bs)
-  where
-    go : Due (read_rows bs) (length_refusal 512 bs) → (x : ReadAnswer) × (read_number x ≡ length_refusal 512 bs)
-    go (inl (_, e)) = (of_read.WrongLength, sym e)
-    go (inr (_, e)) = (of_read.Read, sym e)
+-- each row's number is that of a refusal
+abbrev pub Refuse : List Row → Type 0
+Refuse [] = Unit {0}
+Refuse (r ∷ rows) = ((x : Refusal) × (refusal_number x ≡ r.number)) × Refuse rows
 
-pub batch_answer : (xs ys : List ℕ) → (x : BatchAnswer) × (batch_number x ≡ batch_refusal xs ys)
-batch_answer xs ys = go (batch_due xs ys)
-  where
-    go : Due (batch_rows xs ys) (batch_refusal xs ys) → (x : BatchAnswer) × (batch_number x ≡ batch_refusal xs ys)
-    go (inl (_, e)) = (of_batch.UnequalLists, sym e)
-    go (inr (_, inl (_, e))) = (of_batch.TooManyPairs, sym e)
-    go (inr (_, inr (_, e))) = (of_batch.Added, sym e)
+pub numbered : (rows : List Row) → Refuse rows → (n : ℕ) → Due rows n → Numbered n
+numbered [] s n d = inl d
+numbered (r ∷ rows) ((x, e), s) n (inl (a, d)) = inr (x, e ∙ sym d)
+numbered (r ∷ rows) (x, s) n (inr (a, d)) = numbered rows s n d
 
-pub claim_answer : (xs ys cs : List ℕ) → (x : ClaimAnswer) × (claim_number x ≡ claim_refusal 2 31 512 xs ys cs)
-claim_answer xs ys cs = go (claim_due xs ys cs)
-  where
-    go : Due (claim_rows xs ys cs) (claim_refusal 2 31 512 xs ys cs) → (x : ClaimAnswer) × (claim_number x ≡ claim_refusal 2 31 512 xs ys cs)
-    go (inl (_, e)) = (of_claim.UnequalLists, sym e)
-    go (inr (_, inl (_, e))) = (of_claim.TooManyPairs, sym e)
-    go (inr (_, inr (_, inl (_, e)))) = (of_claim.WrongLength, sym e)
-    go (inr (_, inr (_, inr (_, inl (_, e))))) = (of_claim.Differs, sym e)
-    go (inr (_, inr (_, inr (_, inr (_, e))))) = (of_claim.Right, sym e)
+-- the answer with that number, which holds `a` where nothing is refused
+abbrev pub answer : {A : Type 0} → A → {n : ℕ} → Numbered n → Result A Refusal
+answer a (inl e) = Ok a
+answer a (inr (r, e)) = Err r
+
+pub answer_number : {A : Type 0} (a : A) {n : ℕ} (s : Numbered n) → number_of (answer a s) ≡ n
+answer_number a (inl e) = sym e
+answer_number a (inr (r, e)) = e
+
+pub answer_leaves : (q : State) (w : List ℕ) {n : ℕ} (s : Numbered n) → (n ≢ 0 → words 512 q ≡ w) → after 512 q (answer w s) ≡ w
+answer_leaves q w (inl e) kept = refl
+answer_leaves q w (inr (r, e)) kept = kept (λ z. refused_number r (e ∙ z))
 
 -- ---- a claim is right exactly when it is the rebuilt image
 

@@ -1,6 +1,6 @@
 -- By every way a contract says the same of the words before and after, of the number and of what is left: the fact that stands on the right of each arrow here. And by every way
 -- it can be met by what it says (`-met`), wherever the lent things stand.
-use mathlib.Core.Path.{◌≡◌, refl, sym, ◌∙◌}
+use mathlib.Core.Path.{◌≡◌, refl, sym, ap, ◌∙◌}
 use mathlib.Core.Logic.{◌≢◌}
 use mathlib.Core.Bool.{Bool}
 use mathlib.Core.List.{List, []}
@@ -8,15 +8,11 @@ use Prim.Native.Nat.{ℕ}
 use contract.Lifetimes.{Lfts}
 use Rattle.posit.specs.Accumulator.{State, clear, is_clear, is_not_real, of_posit, of_product, plus, minus, negated, words, from_words}
 use Rattle.desk.specs.Desk.{length_refusal, buffer_refusal, batch_refusal, claim_refusal, written_to, read_into, after_batch}
-use Rattle.desk.specs.Answers.{write_number, read_number, batch_number, claim_number}
-use Rattle.desk.specs.declared.image.WriteAnswer.{WriteAnswer}
-use Rattle.desk.specs.declared.image.ReadAnswer.{ReadAnswer}
-use Rattle.desk.specs.declared.batch.BatchAnswer.{BatchAnswer}
-use Rattle.desk.specs.declared.claim.ClaimAnswer.{ClaimAnswer}
 use Rattle.quire_steps.specs.Sign.{sign_off}
 use Rattle.promises.specs.History.{Direction, added, taken}
 use Rattle.promises.specs.Ways.{Way, by_value, lent, for_c, Place, Beginning, by_cleared, by_init, by_clear, by_clear_for_c, Begun, Handed, a_pattern, a_pair, an_accumulator, Moved, Negated, SignDropped, SaysZero, SaysNar}
 use Rattle.promises.specs.Asked.{Writing, Reading, Adding, Claiming}
+use Rattle.promises.proofs.Refusals.{Numbered, answer, answer_number, answer_leaves, unread, unadded}
 
 -- some lifetimes, and three places that are apart
 pub somewhere : Place
@@ -146,38 +142,44 @@ nar_met for_c q = (one_lifetime, somewhere, refl)
 -- ---- the desk
 
 pub writes_says : (way : Way) (q b : List ℕ) (n : ℕ) (c : List ℕ) → Writing way q b n c → (n ≡ buffer_refusal 512 b) × (c ≡ written_to 512 (from_words 512 q) b)
-writes_says by_value q b n c (κs, m, r, p, e) = (sym e ∙ p.0, p.1)
-writes_says lent q b n c (κs, l, m, r, p, e) = (sym e ∙ p.0, p.1)
+writes_says by_value q b n c (κs, m, x, p, e) = (sym e ∙ p.0, p.1)
+writes_says lent q b n c (κs, l, m, x, p, e) = (sym e ∙ p.0, p.1)
 writes_says for_c q b n c (κs, l, m, p) = p
 
 -- by an answer whose number it is
-pub writes_met : (way : Way) (q b : List ℕ) (r : WriteAnswer) → write_number r ≡ buffer_refusal 512 b → Writing way q b (write_number r) (written_to 512 (from_words 512 q) b)
-writes_met by_value q b r e = (one_lifetime, somewhere, r, (e, refl), refl)
-writes_met lent q b r e = (two_lifetimes, somewhere, elsewhere, r, (e, refl), refl)
-writes_met for_c q b r e = (two_lifetimes, somewhere, elsewhere, (e, refl))
+pub writes_met : (way : Way) (q b : List ℕ) (n : ℕ) → Numbered n → n ≡ buffer_refusal 512 b → Writing way q b n (written_to 512 (from_words 512 q) b)
+writes_met by_value q b n s e = (one_lifetime, somewhere, answer tt s, (answer_number tt s ∙ e, refl), answer_number tt s)
+writes_met lent q b n s e = (two_lifetimes, somewhere, elsewhere, answer tt s, (answer_number tt s ∙ e, refl), answer_number tt s)
+writes_met for_c q b n s e = (two_lifetimes, somewhere, elsewhere, (e, refl))
 
 pub reads_says : (way : Way) (q bs : List ℕ) (n : ℕ) (r : List ℕ) → Reading way q bs n r → (n ≡ length_refusal 512 bs) × (r ≡ words 512 (read_into 512 (from_words 512 q) bs))
-reads_says by_value q bs n r (κs, m, x, p, e) = (sym e ∙ p.0, p.1)
+reads_says by_value q bs n r (κs, m, x, p, e, f) = (sym e ∙ p.0, sym f ∙ p.1)
 reads_says lent q bs n r (κs, l, m, x, p, e) = (sym e ∙ p.0, p.1)
 reads_says for_c q bs n r (κs, l, m, p) = p
 
-pub reads_met : (way : Way) (q bs : List ℕ) (x : ReadAnswer) → read_number x ≡ length_refusal 512 bs → Reading way q bs (read_number x) (words 512 (read_into 512 (from_words 512 q) bs))
-reads_met by_value q bs x e = (one_lifetime, somewhere, x, (e, refl), refl)
-reads_met lent q bs x e = (two_lifetimes, somewhere, elsewhere, x, (e, refl), refl)
-reads_met for_c q bs x e = (two_lifetimes, somewhere, elsewhere, (e, refl))
+pub reads_met : (way : Way) (q bs : List ℕ) (n : ℕ) → Numbered n → n ≡ length_refusal 512 bs → Reading way q bs n (words 512 (read_into 512 (from_words 512 q) bs))
+reads_met by_value q bs n s e =
+    let w = words 512 (read_into 512 (from_words 512 q) bs) in
+    let left = answer_leaves (from_words 512 q) w s (λ o. ap (words 512) (sym (unread (from_words 512 q) bs (λ z. o (e ∙ z))))) in
+    (one_lifetime, somewhere, answer w s, (answer_number w s ∙ e, left), answer_number w s, left)
+reads_met lent q bs n s e = (two_lifetimes, somewhere, elsewhere, answer tt s, (answer_number tt s ∙ e, refl), answer_number tt s)
+reads_met for_c q bs n s e = (two_lifetimes, somewhere, elsewhere, (e, refl))
 
 pub adds_says :
     (way : Way) (q xs ys : List ℕ) (n : ℕ) (r : List ℕ) → Adding way q xs ys n r → (n ≡ batch_refusal xs ys) × (r ≡ words 512 (after_batch 2 31 512 (from_words 512 q) xs ys))
-adds_says by_value q xs ys n r (κs, l, m, x, p, e) = (sym e ∙ p.0, p.1)
+adds_says by_value q xs ys n r (κs, l, m, x, p, e, f) = (sym e ∙ p.0, sym f ∙ p.1)
 adds_says lent q xs ys n r (κs, k, l, m, x, p, e) = (sym e ∙ p.0, p.1)
 adds_says for_c q xs ys n r (κs, k, l, m, p) = p
 
 pub adds_met :
-    (way : Way) (q xs ys : List ℕ) (x : BatchAnswer) → batch_number x ≡ batch_refusal xs ys
-    → Adding way q xs ys (batch_number x) (words 512 (after_batch 2 31 512 (from_words 512 q) xs ys))
-adds_met by_value q xs ys x e = (two_lifetimes, somewhere, elsewhere, x, (e, refl), refl)
-adds_met lent q xs ys x e = (three_lifetimes, somewhere, elsewhere, farther_on, x, (e, refl), refl)
-adds_met for_c q xs ys x e = (three_lifetimes, somewhere, elsewhere, farther_on, (e, refl))
+    (way : Way) (q xs ys : List ℕ) (n : ℕ) → Numbered n → n ≡ batch_refusal xs ys
+    → Adding way q xs ys n (words 512 (after_batch 2 31 512 (from_words 512 q) xs ys))
+adds_met by_value q xs ys n s e =
+    let w = words 512 (after_batch 2 31 512 (from_words 512 q) xs ys) in
+    let left = answer_leaves (from_words 512 q) w s (λ o. ap (words 512) (sym (unadded (from_words 512 q) xs ys (λ z. o (e ∙ z))))) in
+    (two_lifetimes, somewhere, elsewhere, answer w s, (answer_number w s ∙ e, left), answer_number w s, left)
+adds_met lent q xs ys n s e = (three_lifetimes, somewhere, elsewhere, farther_on, answer tt s, (answer_number tt s ∙ e, refl), answer_number tt s)
+adds_met for_c q xs ys n s e = (three_lifetimes, somewhere, elsewhere, farther_on, (e, refl))
 
 pub claims_says : (way : Way) (xs ys cs : List ℕ) (n : ℕ) → Claiming way xs ys cs n → n ≡ claim_refusal 2 31 512 xs ys cs
 claims_says by_value xs ys cs n (κs, k, l, m, x, p, e) = sym e ∙ p
@@ -185,7 +187,7 @@ claims_says lent xs ys cs n none = absurd none
 claims_says for_c xs ys cs n (κs, k, l, m, p) = p
 
 -- there is a function for it by value, and one for C
-pub claims_met : (way : Way) → way ≢ lent → (xs ys cs : List ℕ) (x : ClaimAnswer) → claim_number x ≡ claim_refusal 2 31 512 xs ys cs → Claiming way xs ys cs (claim_number x)
-claims_met by_value o xs ys cs x e = (three_lifetimes, somewhere, elsewhere, farther_on, x, e, refl)
-claims_met lent o xs ys cs x e = absurd (o refl)
-claims_met for_c o xs ys cs x e = (three_lifetimes, somewhere, elsewhere, farther_on, e)
+pub claims_met : (way : Way) → way ≢ lent → (xs ys cs : List ℕ) (n : ℕ) → Numbered n → n ≡ claim_refusal 2 31 512 xs ys cs → Claiming way xs ys cs n
+claims_met by_value o xs ys cs n s e = (three_lifetimes, somewhere, elsewhere, farther_on, answer tt s, answer_number tt s ∙ e, answer_number tt s)
+claims_met lent o xs ys cs n s e = absurd (o refl)
+claims_met for_c o xs ys cs n s e = (three_lifetimes, somewhere, elsewhere, farther_on, e)

@@ -2,6 +2,7 @@
 -- that step, whichever way it is taken. And every history can be run, each step by any way (`can_lead`, `can_run`).
 -- Turns through the image are passed over (`turns_passed`), and a batch is its products added one by one (`batch_after`).
 use mathlib.Core.Path.{◌≡◌, refl, sym, ap, ap₂, subst, ◌∙◌}
+use mathlib.Core.Logic.{inl}
 use mathlib.Core.List.{List, [], ◌∷◌, ◌++◌}
 use Prim.Native.Nat.{ℕ, zero, suc}
 use lib.Dec.{lit<}
@@ -11,8 +12,6 @@ use lib.Seq.{take_at}
 use Rattle.posit.specs.Accumulator.{State, not_real, total, clear, of_posit, of_product, minus, negated, words, from_words, image, from_image}
 use Rattle.desk.specs.Batch.{batch}
 use Rattle.desk.specs.Desk.{written_to}
-use Rattle.desk.specs.declared.image.WriteAnswer.TheVariants.{Written}
-use Rattle.desk.specs.declared.image.ReadAnswer.TheVariants.{Read}
 use Rattle.posit.proofs.State.{Held, words_read, image_read}
 use Rattle.quire_steps.specs.Sign.{sign_off}
 use Rattle.quire_steps.proofs.Kept.{plus_held}
@@ -106,14 +105,14 @@ can_show made S h = ap (image 512) (sym (back S h))
 can_show (written_into way buffer wide) S h =
     let written = buffer_wide (from_words 512 (words 512 S)) buffer wide.0 in (
       written_to 512 (from_words 512 (words 512 S)) buffer,
-      writes_met way (words 512 S) buffer Written (sym written.0),
+      writes_met way (words 512 S) buffer 0 (inl refl) (sym written.0),
       ap (take 64) (written.1 ∙ ap (λ (q : State). image 512 q ++ drop 64 buffer) (back S h)) ∙ take_at (image 512 S) (drop 64 buffer) 64 (image_long S),
     )
 
 can_read : (way : Way) (S : State) → Held 512 S → ReadOf way (image 512 S) (words 512 S)
 can_read way S h =
     let read = right_length (from_words 512 (words 512 S)) (image 512 S) (image_long S) in
-    (words 512 S, words_typed S, subst (Reading way (words 512 S) (image 512 S) 0) (ap (words 512) (read.1 ∙ image_back S h)) (reads_met way (words 512 S) (image 512 S) Read (sym read.0)))
+    (words 512 S, words_typed S, subst (Reading way (words 512 S) (image 512 S) 0) (ap (words 512) (read.1 ∙ image_back S h)) (reads_met way (words 512 S) (image 512 S) 0 (inl refl) (sym read.0)))
 
 -- ---- what was run
 

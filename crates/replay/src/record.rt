@@ -76,7 +76,7 @@ impl Record {
     fn state(&self, i: usize) -> [u64; 8]
         requires { i < 3 }
     {
-        read_image([0; 8], self.image(i)).words
+        read_image([0; 8], self.image(i)).unwrap_or([0; 8])
     }
 
     // Whether our code gives the record's answer. A step leads from the image of the record before it to its own; a rounding is of its own image, and its answer is

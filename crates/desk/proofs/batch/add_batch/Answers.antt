@@ -1,25 +1,21 @@
--- `add_batch` meets its contract: each refusal gives its number and the words back, and else the pairs are added up.
-use mathlib.Core.Path.{sym, ap, ◌∙◌}
-use native.Mathlib.Omega.{arith}
+-- `add_batch` meets its contract: a refusal leaves the state, and otherwise the pairs are added up.
+use mathlib.Core.Path.{◌≡◌, sym, ap, ◌∙◌}
 use Rattle.posit.specs.Accumulator.{words, from_words}
-use Rattle.desk.proofs.Refused.{unequal, too_many, no_refusal, batch_refused, batch_done}
-use Rattle.desk.proofs.Spelt.{words_back}
+use Rattle.desk.specs.Answers.{number_of, after}
+use Rattle.desk.specs.Desk.{batch_refusal, after_batch}
+use Rattle.desk.proofs.Refused.{batch_refused, batch_done, refused, refused_number}
 use Rattle.desk.proofs.batch.add_batch.Goals as goal
 
-pub returns-then-a-b : goal.returns-then-a-b
-returns-then-a-b c =
+pub returns-in_err-admitted : goal.returns-in_err-admitted
+returns-in_err-admitted c =
     let a = c.args in
-    let no = unequal a.a.now a.b.now c.if-a-b.true in
-    (c.answered.ensures.1 ∙ sym no, c.answered.ensures.0 ∙ words_back a.q c.well_formed.0 ∙ ap (words 512) (sym (batch_refused a.a.now a.b.now (from_words 512 a.q) 3 no (λ z. omega arith))))
-
-pub returns-then-a-gt-PAIR_LIMIT : goal.returns-then-a-gt-PAIR_LIMIT
-returns-then-a-gt-PAIR_LIMIT c =
-    let a = c.args in
-    let no = too_many a.a.now a.b.now (omega arith) c.if-a-gt-PAIR_LIMIT.true in
-    (c.answered-then-a-gt-PAIR_LIMIT.ensures.1 ∙ sym no, c.answered-then-a-gt-PAIR_LIMIT.ensures.0 ∙ words_back a.q c.well_formed.0 ∙ ap (words 512) (sym (batch_refused a.a.now a.b.now (from_words 512 a.q) 4 no (λ z. omega arith))))
+    let no = c.in_err-admitted.ensures in
+    let kept = batch_refused a.a.now a.b.now (from_words 512 a.q) _ (sym no) (refused_number _) in
+    refused _ c.from_residual.ensures.1 (λ r. (number_of r ≡ batch_refusal a.a.now a.b.now) × (after 512 (from_words 512 a.q) r ≡ words 512 (after_batch 2 31 512 (from_words 512 a.q) a.a.now a.b.now)))
+    (no, ap (words 512) (sym kept))
 
 pub returns : goal.returns
 returns c =
     let a = c.args in
-    let no = no_refusal a.a.now a.b.now (omega arith) (omega arith) in
-    (c.answered-2.ensures.1 ∙ sym no, c.answered-2.ensures.0 ∙ c.sum_of.ensures ∙ ap (words 512) (sym (batch_done a.a.now a.b.now (from_words 512 a.q) no)))
+    let yes = c.in_ok-admitted.ensures in
+    (yes, c.sum_of.ensures ∙ ap (words 512) (sym (batch_done a.a.now a.b.now (from_words 512 a.q) (sym yes))))

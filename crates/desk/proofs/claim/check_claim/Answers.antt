@@ -6,10 +6,12 @@ use Prim.Native.Nat.{ℕ}
 use native.Mathlib.Omega.{arith}
 use Rattle.posit.specs.Accumulator.{clear, image, words, from_words}
 use Rattle.desk.specs.Batch.{batch}
+use Rattle.desk.specs.Desk.{claim_refusal}
+use Rattle.desk.specs.Answers.{number_of}
 use Rattle.posit.specs.Digits.{same}
 use Rattle.quire_steps.proofs.Words.{zero_words}
 use Rattle.desk.proofs.Summed.{rebuilt}
-use Rattle.desk.proofs.Refused.{unequal, too_many, no_refusal, claim_refused, claim_of_other_length, claim_compared}
+use Rattle.desk.proofs.Refused.{claim_refused, claim_of_other_length, claim_compared, refused, refused_number}
 use Rattle.desk.proofs.claim.check_claim.Goals as goal
 
 -- what was compared is the image of the batch from zero
@@ -17,29 +19,25 @@ compared : (a b claim ws bs : List ℕ) (r t : Bool) → ws ≡ words 512 (batch
     → same (image 512 (batch 2 31 512 clear a b)) claim ≡ t
 compared a b claim ws bs r t e f g h = ap (λ (l : List ℕ). same l claim) (sym (f ∙ ap (image 512) (rebuilt a b ws e))) ∙ sym g ∙ h
 
-pub returns-then-a-b : goal.returns-then-a-b
-returns-then-a-b c =
+pub returns-in_err-admitted : goal.returns-in_err-admitted
+returns-in_err-admitted c =
     let a = c.args in
-    sym (claim_refused a.a.now a.b.now a.claim.now 3 (unequal a.a.now a.b.now c.if-a-b.true) (λ z. omega arith))
-
-pub returns-then-a-gt-PAIR_LIMIT : goal.returns-then-a-gt-PAIR_LIMIT
-returns-then-a-gt-PAIR_LIMIT c =
-    let a = c.args in
-    sym (claim_refused a.a.now a.b.now a.claim.now 4 (too_many a.a.now a.b.now (omega arith) c.if-a-gt-PAIR_LIMIT.true) (λ z. omega arith))
+    let no = claim_refused a.a.now a.b.now a.claim.now _ (sym c.in_err-admitted.ensures) (refused_number _) in
+    refused _ c.from_residual.ensures.1 (λ r. number_of r ≡ claim_refusal 2 31 512 a.a.now a.b.now a.claim.now) (sym no)
 
 pub returns-then-claim-ne-IMAGE_LENGTH : goal.returns-then-claim-ne-IMAGE_LENGTH
 returns-then-claim-ne-IMAGE_LENGTH c =
     let a = c.args in
-    sym (claim_of_other_length a.a.now a.b.now a.claim.now (no_refusal a.a.now a.b.now (omega arith) (omega arith)) c.if-claim-ne-IMAGE_LENGTH.true)
+    sym (claim_of_other_length a.a.now a.b.now a.claim.now (sym c.in_ok-admitted.ensures) c.if-claim-ne-IMAGE_LENGTH.true)
 
 pub returns-then-not-is_same : goal.returns-then-not-is_same
 returns-then-not-is_same c =
     let a = c.args in
     let found = compared a.a.now a.b.now a.claim.now _ _ _ false c.sum_of.ensures c.image_of-rebuilt.ensures c.is_same.ensures c.if-not-is_same.true in
-    sym (claim_compared a.a.now a.b.now a.claim.now false (no_refusal a.a.now a.b.now (omega arith) (omega arith)) (omega arith) found)
+    sym (claim_compared a.a.now a.b.now a.claim.now false (sym c.in_ok-admitted.ensures) (omega arith) found)
 
 pub returns : goal.returns
 returns c =
     let a = c.args in
     let found = compared a.a.now a.b.now a.claim.now _ _ _ true c.sum_of.ensures c.image_of-rebuilt.ensures c.is_same.ensures c.if-not-is_same.false in
-    sym (claim_compared a.a.now a.b.now a.claim.now true (no_refusal a.a.now a.b.now (omega arith) (omega arith)) (omega arith) found)
+    sym (claim_compared a.a.now a.b.now a.claim.now true (sym c.in_ok-admitted.ensures) (omega arith) found)

@@ -1,22 +1,15 @@
--- `is_same` meets its contract: what was found so far, and what is left to compare, are together the answer (`same_more`).
-use mathlib.Core.Path.{◌≡◌, refl, sym, ◌∙◌}
-use native.Mathlib.Omega.{arith}
-use borrow.Author.Rules.{rules}
-use lib.ListN.{length}
-use Rattle.desk.proofs.Summed.{same_more, same_end}
+-- `is_same` meets its contract: the fold over the pairs of bytes is the comparison of the two lists (`same_folded`).
+use mathlib.Core.Path.{◌∙◌}
+use mathlib.Core.Bool.{true}
+use borrow.Author.Tests.{tests}
+use Rattle.std.proofs.Common.{rules}
+use Rattle.std.proofs.lemmas.Iterator.{YieldsList-from_slice, YieldsList-from_zip}
+use Rattle.std.proofs.lemmas.Iterator.Consumers.{fold_from_yields_List}
+use Rattle.desk.proofs.Summed.{still_same, same_folded}
 use Rattle.desk.proofs.claim.is_same.Goals as goal
-
-pub loop-i-init : goal.loop-i-init
-loop-i-init c = (search rules, refl)
-
-pub loop-i-preserved : goal.loop-i-preserved
-loop-i-preserved c =
-    let long : length c.args.image ≡ 64 = search rules in
-    let h = c.loop-i.invariant in
-    (search rules, sym (same_more c.loop-i.equal c.args.image c.args.claim.now c.loop-i.i (omega arith) (omega (arith, c.requires))) ∙ h.1)
 
 pub returns : goal.returns
 returns c =
-    let long : length c.args.image ≡ 64 = search rules in
-    let h = c.loop-i.invariant in
-    sym (same_end c.loop-i.equal c.args.image c.args.claim.now c.loop-i.i (omega arith) (omega (arith, c.requires))) ∙ h.1
+    let a = c.args in
+    fold_from_yields_List _ still_same true c.fold.result c.fold.ensures.ran (YieldsList-from_zip (YieldsList-from_slice a.image (cc)) (YieldsList-from_slice a.claim.now (cc))) (λ t p u q k. search (rules, tests))
+    ∙ same_folded a.image a.claim.now true (search rules)

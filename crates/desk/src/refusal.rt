@@ -1,0 +1,27 @@
+// When the desk says no, and the number of each refusal.
+ghost use Rattle.std.specs.Prelude.{◌≡◌};
+ghost use Rattle.desk.specs.Answers.{refusal_number};
+
+#[derive(Clone, Copy, Debug, PartialEq, Eq)]
+pub enum Refusal {
+    WrongLength, // an image, or a claim, that is not 64 bytes long
+    BufferTooShort, // for an image
+    UnequalLists, // the two lists of a batch
+    TooManyPairs, // more than PAIR_LIMIT
+    Differs, // a claim, from the image that is rebuilt
+}
+
+impl Refusal {
+    // 0 is the number of no refusal.
+    pub fn number(self) -> u32
+        ensures { result ≡ refusal_number self }
+    {
+        match self {
+            Refusal::WrongLength => 1,
+            Refusal::BufferTooShort => 2,
+            Refusal::UnequalLists => 3,
+            Refusal::TooManyPairs => 4,
+            Refusal::Differs => 5,
+        }
+    }
+}
