@@ -12,6 +12,7 @@ use quire_steps::add_product;
 // The greatest number of pairs that a batch may have.
 pub const PAIR_LIMIT: usize = 16384;
 
+// Two lists, and no list of pairs: that they differ in length is a refusal, and C lends two.
 pub fn add_batch(q: [u64; 8], a: &[u32], b: &[u32]) -> Result<[u64; 8], Refusal>
     ensures { (number_of result ≡ batch_refusal a.now b.now) × (after 512 (from_words 512 q) result ≡ words 512 (after_batch 2 31 512 (from_words 512 q) a.now b.now)) }
 {

@@ -22,7 +22,7 @@ pub fn check_claim(a: &[u32], b: &[u32], claim: &[u8]) -> Result<(), Refusal>
     Ok(())
 }
 
-// Every byte is compared, whatever the first ones say.
+// Every byte is compared, whatever the first ones say: `==` of two slices may leave off where they differ.
 fn is_same(image: [u8; 64], claim: &[u8]) -> bool
     requires { length claim.now ≡ 64 }
     ensures { result ≡ same image claim.now }

@@ -1,5 +1,5 @@
-// The same for an accumulator that is lent: the function over its words is called, and what comes back is stored. They stay beside those over words, since an accumulator that
-// is lent and changed in place by thin entries over one core is the form that document 01 asks for.
+// The same for an accumulator that is lent: the function over its words is called, and what comes back is stored. Both stand, since thin entries over one core are a form that is owed
+// (docs/DECISIONS.md).
 ghost use Rattle.std.specs.Prelude.{◌≡◌};
 ghost use Rattle.posit.specs.Accumulator.{words, from_words};
 ghost use Rattle.desk.specs.Desk.{length_refusal, buffer_refusal, batch_refusal, written_to, read_into, after_batch};

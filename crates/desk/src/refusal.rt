@@ -12,7 +12,7 @@ pub enum Refusal {
 }
 
 impl Refusal {
-    // 0 is the number of no refusal.
+    // 0 is the number of no refusal. A plain method, and no From: a form that is owed (docs/DECISIONS.md).
     pub fn number(self) -> u32
         ensures { result ≡ refusal_number self }
     {

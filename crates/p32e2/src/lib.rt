@@ -28,6 +28,7 @@ impl P32E2 {
 
     pub const MIN_POSITIVE: P32E2 = P32E2(1);
 
+    // The source's names, as plain methods, are a form that is owed (docs/DECISIONS.md); `is_zero` and `is_nar` differ in a constant, and each is one comparison.
     pub fn from_bits(v: u32) -> P32E2
         ensures { result.0 ≡ v }
     {

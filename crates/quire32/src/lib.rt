@@ -19,7 +19,7 @@ impl Q32E2 {
 
     pub const NAR: Q32E2 = Q32E2([0x8000_0000_0000_0000, 0, 0, 0, 0, 0, 0, 0]);
 
-    // `init`, `from_bits` and `to_bits` are the source's names: plain methods in the place of traits (document 01).
+    // `init`, `from_bits` and `to_bits` are the source's names, and plain methods where traits could stand are a form that is owed (docs/DECISIONS.md).
     pub fn init() -> Q32E2
         ensures { result.0 ≡ words 512 clear }
     {

@@ -1,5 +1,5 @@
 // The steps of the accumulator, by value: an operand is added at its place, and the new total judged by the range.
-// Words stay [u64; 8], with `words` and `from_words` in each clause: they go in and out by value (document 01), and the theorems of one answer are about the words.
+// Words stay [u64; 8], with `words` and `from_words` in each clause: by value is a form that is owed (docs/DECISIONS.md), and the theorems of one answer are about the words.
 #![tactic(auto)]
 
 mod operands; // operands.rt: what a step brings
@@ -110,7 +110,7 @@ pub fn from_posit(p: P32E2) -> [u64; 8]
     step([0; 8], posit_of(p))
 }
 
-// A product in one of the two directions: added, or taken where `added` is false.
+// A product in one of the two directions: added, or taken where `added` is false. Here and below that is a bool and no closure, since it becomes the sign of one step and chooses none.
 fn fdp(q: [u64; 8], a: P32E2, b: P32E2, added: bool) -> [u64; 8]
     ensures { result ≡ words 512 (moved added (from_words 512 q) (of_product 2 31 a.0 b.0)) }
 {

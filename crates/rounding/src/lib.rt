@@ -10,7 +10,7 @@ ghost use Rattle.posit.proofs.Packing.{from_digits};
 ghost use Rattle.rounding.specs.Packed.{packed_unit, packed_size};
 
 // The size 2^(scale - 1024)·(1 + f), rounded, with its sign. The fraction f is the lowest 61 bits of `fraction`, and half a unit of the last one
-// more where the sticky bit is set.
+// more where the sticky bit is set. Four arguments and no struct of them: each caller makes them in the call, and they are taken apart at once.
 pub fn pack(negative: bool, scale: u32, fraction: u64, sticky: bool) -> u32
     ensures { result ≡ signed 31 negative (round 2 31 packed_unit (whole (packed_size scale fraction sticky))) }
 {

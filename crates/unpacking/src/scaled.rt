@@ -11,7 +11,7 @@ pub struct Scaled {
     pub significand: u64,
 }
 
-// The scale and the significand of every pattern; for zero and NaR, which have none, both are 0.
+// The scale and the significand of every pattern; for zero and NaR, which have none, both are 0, as `IsScaled` says: a step adds zero by that significand, and no Option is unwrapped.
 #[tactic(auto, using(crate::proofs::Scale::zero_unscaled, crate::proofs::Scale::nar_unscaled))]
 pub fn scaled_of(p: u32) -> Scaled
     ensures { IsScaled p result.scale result.significand }
