@@ -52,6 +52,17 @@ byte_of_word n j k hj hk =
     ∙ part_of_digit (n / (2 ^ 64) ^ (7 - j)) (2 ^ (56 - 8 * k)) (2 ^ 8) (2 ^ (8 * k)) (pow_pos (56 - 8 * k)) (pow_pos 8) (pow_pos (8 * k))
     ∙ ap (λ (m : ℕ). m % 256) (div-div-eq-div-mul n ((2 ^ 64) ^ (7 - j)) (2 ^ (56 - 8 * k)) ∙ ap (λ (m : ℕ). n / m) place)
 
+-- the same of eight words, at place i of the image
+pub byte_is : (ws : List ℕ) (i : ℕ) → length ws ≡ 8 → InBase (2 ^ 64) ws → i < 64 → get_or ws (i / 8) 0 / 2 ^ (56 - 8 * (i % 8)) % 256 ≡ wide ws / 256 ^ (63 - i) % 256
+byte_is ws i e b h =
+    let all : ws ≡ digits (2 ^ 64) 8 (wide ws) = sym (digits_number (2 ^ 64) (pow_pos 64) ws b) ∙ ap (λ (c : ℕ). digits (2 ^ 64) c (wide ws)) e in
+    let places : 8 - suc (i / 8) ≡ 7 - i / 8 = omega arith in
+    let whole : 8 * (i / 8) + i % 8 ≡ i = omega arith in
+    ap (λ (l : List ℕ). get_or l (i / 8) 0 / 2 ^ (56 - 8 * (i % 8)) % 256) all
+    ∙ ap (λ (n : ℕ). n / 2 ^ (56 - 8 * (i % 8)) % 256) (digit_at (2 ^ 64) 8 (wide ws) (i / 8) (omega arith) ∙ ap (λ (m : ℕ). wide ws / (2 ^ 64) ^ m % 2 ^ 64) places)
+    ∙ byte_of_word (wide ws) (i / 8) (i % 8) (omega arith) (omega arith)
+    ∙ ap (λ (m : ℕ). wide ws / 256 ^ (63 - m) % 256) whole
+
 -- byte k of a word by itself
 byte_of : (n k : ℕ) → byte_at k n ≡ n / 256 ^ k % 256
 byte_of n zero = ap (λ (m : ℕ). m % 256) (sym (div-one n))
@@ -66,19 +77,13 @@ high_first (suc c) n (suc k) h =
     let e : suc c - suc (suc k) ≡ c - suc k = omega arith in
     rw e (high_first c n k (omega arith))
 
--- byte i of the image is one of its word
-pub byte_is : (ws : List ℕ) (i : ℕ) → length ws ≡ 8 → InBase (2 ^ 64) ws → i < 64 → get_or (to_be_bytes w64 (get_or ws (i / 8) 0)) (i % 8) 0 ≡ wide ws / 256 ^ (63 - i) % 256
-byte_is ws i e b h =
-    let all : ws ≡ digits (2 ^ 64) 8 (wide ws) = sym (digits_number (2 ^ 64) (pow_pos 64) ws b) ∙ ap (λ (c : ℕ). digits (2 ^ 64) c (wide ws)) e in
-    let places : 8 - suc (i / 8) ≡ 7 - i / 8 = omega arith in
+-- byte i of the image, read off the bytes of its word
+pub byte_read : (ws : List ℕ) (i : ℕ) → length ws ≡ 8 → InBase (2 ^ 64) ws → i < 64 → get_or (to_be_bytes w64 (get_or ws (i / 8) 0)) (i % 8) 0 ≡ wide ws / 256 ^ (63 - i) % 256
+byte_read ws i e b h =
     let bits : 8 * (8 - suc (i % 8)) ≡ 56 - 8 * (i % 8) = omega arith in
-    let whole : 8 * (i / 8) + i % 8 ≡ i = omega arith in
     high_first 8 (get_or ws (i / 8) 0) (i % 8) (omega arith)
     ∙ ap (λ (m : ℕ). get_or ws (i / 8) 0 / m % 256) (sym (pow_mul 8 (8 - suc (i % 8))) ∙ ap (λ (m : ℕ). 2 ^ m) bits)
-    ∙ ap (λ (l : List ℕ). get_or l (i / 8) 0 / 2 ^ (56 - 8 * (i % 8)) % 256) all
-    ∙ ap (λ (n : ℕ). n / 2 ^ (56 - 8 * (i % 8)) % 256) (digit_at (2 ^ 64) 8 (wide ws) (i / 8) (omega arith) ∙ ap (λ (m : ℕ). wide ws / (2 ^ 64) ^ m % 2 ^ 64) places)
-    ∙ byte_of_word (wide ws) (i / 8) (i % 8) (omega arith) (omega arith)
-    ∙ ap (λ (m : ℕ). wide ws / 256 ^ (63 - m) % 256) whole
+    ∙ byte_is ws i e b h
 
 -- digit by digit, all of them
 pub all_digits : (B n x : ℕ) (r : List ℕ) → length r ≡ n → ((k : ℕ) → k < n → get_or r k 0 ≡ x / B ^ (n - suc k) % B) → r ≡ digits B n x

@@ -1,5 +1,5 @@
 -- An operand at its place: the two words of a significand that was moved up are two columns of a chain, with all of it (`two_columns`), and where a chain over eight words and the one below them has ended, the
--- eight are the wrapped sum (`chained`), since no digit of an operand is below the accumulator's unit.
+-- eight are the wrapped sum (`chained`), since no digit of an operand is below the accumulator's unit. `set_adds` is of numbers with the highest digit first, as the bytes of an image are.
 use mathlib.Core.Path.{◌≡◌, sym, ap, ◌∙◌, subst}
 use mathlib.Core.Bool.{Bool, true, false}
 use mathlib.Core.List.{List, [], ◌∷◌}
@@ -14,6 +14,21 @@ use Rattle.posit.specs.Digits.{number}
 use Rattle.posit.proofs.Arith.{pow_sum, pow_mul}
 use Rattle.quire_words.proofs.Operand.{turned}
 use Rattle.quire_words.proofs.Chain.{Shifted, Chain, begun, column}
+
+-- ---- a word that is written
+
+-- a digit v written at i takes the place of the one that stood there
+pub set_adds : (B : ℕ) (ws : List ℕ) (i v : ℕ) → i < length ws
+    → number B (set ws i v) + get_or ws i 0 * B ^ (length ws - suc i) ≡ number B ws + v * B ^ (length ws - suc i)
+unfolding number
+set_adds B [] i v h = absurd (not-suc-le-zero h)
+set_adds B (w ∷ ws) zero v h =
+    let e : suc (length ws) - 1 ≡ length ws = omega arith in
+    rw e (omega arith)
+set_adds B (w ∷ ws) (suc i) v h =
+    let e : suc (length ws) - suc (suc i) ≡ length ws - suc i = omega arith in
+    let first : number B (set (w ∷ ws) (suc i) v) ≡ w * B ^ length ws + number B (set ws i v) = ap (λ (n : ℕ). w * B ^ n + number B (set ws i v)) (length-set ws i v) in
+    rw (e, first) (omega (arith, set_adds B ws i v (omega arith)))
 
 -- ---- the two words of a significand
 
