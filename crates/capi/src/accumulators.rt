@@ -1,4 +1,4 @@
-// Accumulators: eight words behind a reference, word 0 the most significant. A step changes them in place.
+// Accumulators: eight words behind a reference, word 0 the most significant. A step changes them in place. C has a function for each way, added and taken.
 ghost use Rattle.std.specs.Prelude.{◌≡◌};
 ghost use Rattle.posit.specs.Accumulator.{clear, is_not_real, is_clear, of_posit, of_product, plus, minus, negated, to_posit, words, from_words};
 ghost use Rattle.quire_steps.specs.Sign.{sign_off};

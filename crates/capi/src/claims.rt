@@ -1,4 +1,5 @@
-// The desk: the number of the refusal is the answer, 0 for none. What was lent is as it was wherever a number is answered.
+// The desk: the number of the refusal is the answer, 0 for none. What was lent is as it was wherever a number is answered. Two entries lend an accumulator of the
+// eight words each by itself: a closure over the `&mut` in the place of the call would need clauses of its own.
 ghost use Rattle.std.specs.Prelude.{◌≡◌};
 ghost use Rattle.posit.specs.Accumulator.{words, from_words};
 ghost use Rattle.desk.specs.Desk.{length_refusal, buffer_refusal, batch_refusal, claim_refusal, written_to, read_into, after_batch};

@@ -1,6 +1,6 @@
 -- Digits one by one: which digit stands at a place, a digit to a finer base as a part of one to a coarser, and a list of all the digits of a number
 -- (`all_digits`). Words and image are the digits of one number (`image_digits`).
-use mathlib.Core.Path.{◌≡◌, refl, sym, ap, ◌∙◌}
+use mathlib.Core.Path.{◌≡◌, refl, sym, ap, subst, ◌∙◌}
 use mathlib.Core.List.{List}
 use Prim.Native.Nat.{ℕ, zero, suc, ◌+◌, ◌-◌, ◌*◌, ◌/◌, ◌%◌, ◌^◌, ◌<◌}
 use native.Mathlib.Nat.{not-suc-le-zero, div-one, div-div-eq-div-mul, mod-lt, mul-pos}
@@ -102,3 +102,8 @@ image_long q = length_digits 256 64 (bits_of 512 q)
 -- words that an array holds are those of the state that they are
 pub words_back : (ws : List ℕ) → (r_arr {k = 0} (e_int w64) (e_int_laws w64) 8).is.Ok tt ws → ws ≡ words 512 (from_words 512 ws)
 words_back ws o = let w = words_typed 8 ws o in sym (read_words 512 (lit< tt) refl ws w.0 w.1)
+
+-- what a refusal leaves: words that were taken out of an accumulator, and are those of what its state then is, were its own
+pub left_standing : (then : State → State) (own ws : List ℕ) → (r_arr {k = 0} (e_int w64) (e_int_laws w64) 8).is.Ok tt ws → ws ≡ own
+    → words 512 (from_words 512 ws) ≡ words 512 (then (from_words 512 ws)) → own ≡ words 512 (then (from_words 512 own))
+left_standing then own ws o e stays = subst (λ (l : List ℕ). l ≡ words 512 (then (from_words 512 l))) e (words_back ws o ∙ stays)

@@ -41,7 +41,7 @@ pub(crate) fn sum_of(q: [u64; 8], a: &[u32], b: &[u32]) -> [u64; 8]
     a.iter().zip(b).fold(q, with_pair)
 }
 
-// The words after one pair more.
+// The words after one pair more. It has a name, since of a closure that takes and gives an array the check infers no clause.
 fn with_pair(r: [u64; 8], pair: (&u32, &u32)) -> [u64; 8]
     ensures { result ≡ words 512 (plus 512 (from_words 512 r) (of_product 2 31 pair.entry.0.now pair.entry.1.now)) }
 {

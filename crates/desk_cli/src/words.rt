@@ -99,6 +99,7 @@ impl From<Refusal> for Trouble {
     }
 }
 
+// A function and no Display: the type is the library's, and in a library stands no impl of a trait.
 fn reason(refusal: Refusal) -> &'static str {
     match refusal {
         Refusal::WrongLength => "the claim is not 64 bytes long",

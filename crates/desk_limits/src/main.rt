@@ -4,10 +4,11 @@
 
 ghost use Rattle.std.specs.Prelude.{◌<◌};
 
-use desk::batch::add_batch;
 use desk::claim::check_claim;
-use desk::image::{image_of, read_image, write_image};
+use desk::image::{image_of, write_image};
+use desk::lent::{add_batch, read_image};
 use desk::refusal::Refusal;
+use quire32::Q32E2;
 use std::io;
 
 // A state whose bytes are none of them 7.
@@ -44,13 +45,13 @@ fn written(rt: &impl Print) -> io::Result<()> {
     Ok(())
 }
 
-// Images read at the same lengths: the number, and the last word of the state, which a refusal leaves as it was.
+// Images read at the same lengths: the number, and the last word of the accumulator, which a refusal leaves as it was.
 fn read(rt: &impl Print) -> io::Result<()> {
     let bytes = [1u8; 200];
     for n in [0, 63, 64, 65, 200] {
-        let read = read_image(STATE, &bytes[..n]);
-        say(rt, read)?;
-        let last = read.unwrap_or(STATE)[7];
+        let mut q = Q32E2(STATE);
+        say(rt, read_image(&mut q, &bytes[..n]))?;
+        let last = q.0[7];
         println!(rt; "{last}")?;
     }
     Ok(())
@@ -69,9 +70,9 @@ fn batches(rt: &impl Print) -> io::Result<()> {
         (16384, 16385),
         (16384, 16383),
     ] {
-        let added = add_batch([0; 8], &ones[..m], &ones[..n]);
-        say(rt, added)?;
-        let units = added.unwrap_or([0; 8])[4];
+        let mut q = Q32E2::ZERO;
+        say(rt, add_batch(&mut q, &ones[..m], &ones[..n]))?;
+        let units = q.0[4];
         println!(rt; "{units}")?;
     }
     Ok(())
@@ -125,7 +126,7 @@ fn nar_claims(rt: &impl Print) -> io::Result<()> {
 }
 
 // The number of an answer, 0 for no refusal.
-fn say<T: Drop>(rt: &impl Print, answer: Result<T, Refusal>) -> io::Result<()> {
+fn say(rt: &impl Print, answer: Result<(), Refusal>) -> io::Result<()> {
     let number = answer.map_or_else(Refusal::number, |_| 0);
     println!(rt; "{number}")
 }

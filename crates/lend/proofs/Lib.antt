@@ -16,7 +16,7 @@
 --     writes               the shape: what the core returns is stored. `stores`, `answers` and `shows` are the other three
 --     0                    how many lifetimes the core has: one for each slice that it is lent
 --     with_field           the core is handed the field's value before the arguments; `without`, the arguments alone
---     quire_holds          that the struct holds this field and nothing else (Solids.antt of `quire32`)
+--     quire_holds          that the struct holds this field and nothing else, which its crate would show (`Field.Holds`)
 --     value posit ∷ []     the arguments: each a type by value, or `slice j tt (uint w8)` for a `&[u8]`, `slice_mut` for a `&mut [u8]`, at the core's lifetime j
 --     λ (ws, (p, _)) r _.  the core's fact: of what it is handed, of what it returns, and of what it was handed as that is at exit
 --     code.function        the entry's own code, which the checker makes of the source, as it does its key `key.name` and what its routine runs, `code.unfolded`; 𝓛 𝓜 𝓡 are the model that every theorem is over, in whose environment `𝓡.env` names are read, and `wired` says that it has this code

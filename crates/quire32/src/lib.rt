@@ -62,6 +62,7 @@ impl Q32E2 {
         quire_steps::is_nar(self.0)
     }
 
+    // A method for each way, since the names are the source's; the clauses are about the words, as the theorems of one answer are.
     pub fn add_product(&mut self, a: P32E2, b: P32E2)
         ensures { self.new.0 ≡ words 512 (plus 512 (from_words 512 self.old.0) (of_product 2 31 a.0 b.0)) }
     {
@@ -117,6 +118,7 @@ impl Q32E2 {
         self.0 = quire_steps::cleared();
     }
 
+    // Two names for two counts, which are the source's.
     pub fn into_two_posits(self) -> [P32E2; 2]
         ensures { map (λ (p : P32E2). p.0) result ≡ parts_of 2 31 512 2 (from_words 512 self.0) }
     {

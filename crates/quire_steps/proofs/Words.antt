@@ -7,7 +7,7 @@ use mathlib.Core.List.{List, [], ◌∷◌}
 use Prim.Native.Nat.{ℕ, ◌*◌, ◌^◌, ◌<◌}
 use native.Mathlib.Decide.{dec_lt, ℕ_discrete}
 use native.Mathlib.Omega.{arith}
-use borrow.Author.Tests.{eq-eqb, ne_eqb}
+use borrow.Author.Tests.{eq-eqb, ne_eqb, eqb-true}
 use lib.Dec.{eqb}
 use lib.IntN.{pos}
 use lib.ListN.{length}
@@ -39,6 +39,10 @@ clear_spelt = refl
 pub read_nar : (ws : List ℕ) → wide ws ≡ 2 ^ 511 → from_words 512 ws ≡ not_real
 unfolding from_words state_of
 read_nar ws e = rw (eq-eqb (wide ws) (2 ^ 511) e)
+
+-- where the test of eight words has found it
+pub nar_found : (ws : List ℕ) (t : Bool) → t ≡ eqb (wide ws) (2 ^ 511) → t ≡ true → from_words 512 ws ≡ not_real
+nar_found ws t e found = read_nar ws (eqb-true (wide ws) (2 ^ 511) (sym e ∙ found))
 
 pub read_clear : (ws : List ℕ) → wide ws ≡ 0 → from_words 512 ws ≡ total (pos 0)
 unfolding from_words state_of reading

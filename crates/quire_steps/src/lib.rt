@@ -110,7 +110,7 @@ pub fn from_posit(p: P32E2) -> [u64; 8]
     step([0; 8], posit_of(p))
 }
 
-// A product in one of the two directions: added, or taken where `added` is false. Here and below that is a bool and no closure, since it becomes the sign of one step and chooses none.
+// A product in one of the two directions: added, or taken where `added` is false. Here and below that is a bool and no closure, since it becomes the sign of what is added (in `join` its words, complemented or not) and chooses no step.
 fn fdp(q: [u64; 8], a: P32E2, b: P32E2, added: bool) -> [u64; 8]
     ensures { result ≡ words 512 (moved added (from_words 512 q) (of_product 2 31 a.0 b.0)) }
 {

@@ -9,6 +9,7 @@ use unpacking::scaled::scaled_of;
 use unpacking::{NAR, either_nar};
 
 // NaR, or significand·2^shift with its sign, told one word below the accumulator's unit, in 2^-304: a significand is only moved up. Zero has the significand 0.
+// Clauses speak of its fields: a definition over it would have to stand in `specs/` of this crate.
 // NaR is a flag: as an Option of an operand without it a product takes 1.06 times as long, and a pair of a batch 140 instructions for 132.
 #[derive(Clone, Copy)]
 pub(crate) struct Operand {

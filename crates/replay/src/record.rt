@@ -55,13 +55,7 @@ impl Record {
     fn pattern(&self, i: usize) -> u32
         requires { i < 4 }
     {
-        let at = 1 + 4 * i;
-        u32::from_be_bytes([
-            self.bytes[at],
-            self.bytes[at + 1],
-            self.bytes[at + 2],
-            self.bytes[at + 3],
-        ])
+        u32::from_be_bytes(*self.bytes[1 + 4 * i..].first_chunk().unwrap())
     }
 
     // Image i, of three.

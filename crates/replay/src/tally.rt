@@ -23,7 +23,8 @@ impl fmt::Display for Count {
     }
 }
 
-// The count of each operation, in the order of `Operation::ALL`, and that of the numbers that no operation has.
+// The count of each operation at the place of its number, which is its place in `Operation::ALL` (an array is the plainest map of nineteen), and that of the numbers that no
+// operation has.
 #[derive(Clone, Copy, Default)]
 pub struct Tally {
     pub known: [Count; 19],

@@ -2,14 +2,14 @@
 use mathlib.Core.Path.{◌≡◌, sym, ap, ◌∙◌}
 use mathlib.Core.Bool.{Bool, cond, not, beq}
 use Prim.Native.Nat.{ℕ, ◌+◌, ◌-◌, ◌%◌, ◌^◌}
-use borrow.Author.Tests.{eqb-true, eqb-false}
+use borrow.Author.Tests.{eqb-false}
 use mir.Val.{bool_byte}
 use lib.Dec.{leb}
 use Rattle.posit.specs.Accumulator.{words, from_words}
 use Rattle.quire_words.specs.Words.{wide}
 use Rattle.quire_words.proofs.Operand.{moved, turned, escaped}
 use Rattle.quire_words.proofs.Places.{words_typed, wide_typed}
-use Rattle.quire_steps.proofs.Words.{read_nar, spelt}
+use Rattle.quire_steps.proofs.Words.{nar_found, spelt}
 use Rattle.quire_steps.proofs.Stepped.{nar_moves, moved_by_nar}
 use Rattle.quire_steps.proofs.Joined.{sign_told, joined_bits}
 use Rattle.quire_steps.proofs.join.Goals as goal
@@ -18,13 +18,13 @@ use Rattle.quire_steps.proofs.join.Goals.{then-added, else-added}
 pub returns-then-is_alone : goal.returns-then-is_alone
 returns-then-is_alone c =
     let a = c.args in
-    let nar = read_nar a.q (eqb-true (wide a.q) (2 ^ 511) (sym c.is_alone.ensures ∙ c.if-is_alone.true)) in
+    let nar = nar_found a.q _ c.is_alone.ensures c.if-is_alone.true in
     c.not_real.ensures ∙ ap (words 512) (sym (ap (λ q. moved a.added q (from_words 512 a.p)) nar ∙ nar_moves a.added (from_words 512 a.p)))
 
 pub returns-then-is_alone-2 : goal.returns-then-is_alone-2
 returns-then-is_alone-2 c =
     let a = c.args in
-    let nar = read_nar a.p (eqb-true (wide a.p) (2 ^ 511) (sym c.is_alone-2.ensures ∙ c.if-is_alone-2.true)) in
+    let nar = nar_found a.p _ c.is_alone-2.ensures c.if-is_alone-2.true in
     c.not_real-then-is_alone-2.ensures ∙ ap (words 512) (sym (ap (moved a.added (from_words 512 a.q)) nar ∙ moved_by_nar a.added (from_words 512 a.q)))
 
 pub returns : goal.returns

@@ -1,12 +1,12 @@
 -- `qAbs` meets its contract: NaR stays, and the words without their sign have the number of the total without its sign (`size_bits`).
 use mathlib.Core.Path.{sym, ap, ◌∙◌}
 use Prim.Native.Nat.{◌^◌}
-use borrow.Author.Tests.{eqb-true, eqb-false}
+use borrow.Author.Tests.{eqb-false}
 use Rattle.posit.specs.Accumulator.{words}
 use Rattle.quire_words.specs.Words.{wide}
 use Rattle.quire_words.proofs.Places.{words_typed}
 use Rattle.quire_steps.specs.Sign.{sign_off}
-use Rattle.quire_steps.proofs.Words.{read_nar, spelt}
+use Rattle.quire_steps.proofs.Words.{nar_found, spelt}
 use Rattle.quire_steps.proofs.Joined.{size_bits}
 use Rattle.quire_steps.proofs.qAbs.Goals as goal
 
@@ -14,7 +14,7 @@ pub returns-then-is_alone : goal.returns-then-is_alone
 unfolding sign_off
 returns-then-is_alone c =
     let q = c.args.q in
-    c.not_real.ensures ∙ ap (words 512) (sym (ap sign_off (read_nar q (eqb-true (wide q) (2 ^ 511) (sym c.is_alone.ensures ∙ c.if-is_alone.true)))))
+    c.not_real.ensures ∙ ap (words 512) (sym (ap sign_off (nar_found q _ c.is_alone.ensures c.if-is_alone.true)))
 
 pub returns : goal.returns
 returns c =

@@ -3,20 +3,20 @@ use mathlib.Core.Path.{◌≡◌, sym, ap, ◌∙◌}
 use mathlib.Core.Bool.{true}
 use Prim.Native.Nat.{◌^◌}
 use native.Mathlib.Omega.{arith}
-use borrow.Author.Tests.{eqb-true, eqb-false}
+use borrow.Author.Tests.{eqb-false}
 use Rattle.posit.specs.Accumulator.{not_real, total, plus, bits_of, words, from_words}
 use Rattle.posit.proofs.Signs.{with_sign}
 use Rattle.quire_words.specs.Words.{wide}
 use Rattle.quire_words.proofs.Operand.{amount, brought}
 use Rattle.quire_words.proofs.Places.{words_typed, wide_typed}
-use Rattle.quire_steps.proofs.Words.{read_nar, spelt}
+use Rattle.quire_steps.proofs.Words.{nar_found, spelt}
 use Rattle.quire_steps.proofs.Stepped.{nar_moves, moved_by_nar, amount_below, stepped_bits}
 use Rattle.quire_steps.proofs.step.Goals as goal
 
 pub returns-then-is_alone : goal.returns-then-is_alone
 returns-then-is_alone c =
     let a = c.args in
-    let nar = read_nar a.q (eqb-true (wide a.q) (2 ^ 511) (sym c.is_alone.ensures ∙ c.if-is_alone.true)) in
+    let nar = nar_found a.q _ c.is_alone.ensures c.if-is_alone.true in
     c.not_real.ensures ∙ ap (words 512) (sym (ap (λ q. plus 512 q (brought a.x.nar a.x.negative a.x.shift a.x.significand)) nar ∙ nar_moves true (brought a.x.nar a.x.negative a.x.shift a.x.significand)))
 
 pub returns-then-x : goal.returns-then-x

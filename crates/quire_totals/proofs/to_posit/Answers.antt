@@ -13,7 +13,7 @@ use Rattle.quire_words.specs.Words.{wide}
 use Rattle.quire_words.proofs.Places.{words_typed, wide_typed}
 use Rattle.quire_words.proofs.First.{sign_seen}
 use Rattle.quire_steps.proofs.Range.{size_positive, sign_and_size}
-use Rattle.quire_steps.proofs.Words.{read_nar, read_clear, read_real}
+use Rattle.quire_steps.proofs.Words.{nar_found, read_clear, read_real}
 use Rattle.quire_totals.proofs.to_posit.Goals as goal
 
 module _ {q : State} where
@@ -40,7 +40,7 @@ returns-then-is_alone c =
 pub returns-then-is_alone-2 : goal.returns-then-is_alone-2
 returns-then-is_alone-2 c =
     let q = c.args.q in
-    sym (rounds_nar (read_nar q (eqb-true (wide q) (2 ^ 511) (sym c.is_alone-2.ensures ∙ c.if-is_alone-2.true))))
+    sym (rounds_nar (nar_found q _ c.is_alone-2.ensures c.if-is_alone-2.true))
 
 pub round_size-requires : goal.round_size-requires
 round_size-requires c =
