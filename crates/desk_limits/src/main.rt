@@ -125,7 +125,7 @@ fn nar_claims(rt: &impl Print) -> io::Result<()> {
     Ok(())
 }
 
-// The number of an answer, 0 for no refusal.
+// The number of an answer, 0 for no refusal: one call here, where C's entries have a function of their own.
 fn say(rt: &impl Print, answer: Result<(), Refusal>) -> io::Result<()> {
     let number = answer.map_or_else(Refusal::number, |_| 0);
     println!(rt; "{number}")

@@ -72,7 +72,8 @@ impl Term {
     }
 }
 
-// n·2^scale, or more where the sticky bit says so, but less than (n + 1)·2^scale: rounded, with its sign. The leading one of n is moved to bit 61.
+// n·2^scale, or more where the sticky bit says so, but less than (n + 1)·2^scale: rounded, with its sign. The leading one of n is moved to bit 61. Four arguments,
+// as `pack` has.
 fn pack_wide(negative: bool, scale: u32, n: u64, sticky: bool) -> u32
     requires { (0 < n) × (sticky ≡ true → 2 ^ 61 ≤ n) × (64 ≤ scale) × (scale < 2000) }
     ensures { (x : Exact) → Sound x → Counts x n (2 ^ scale) sticky → result ≡ signed 31 negative (round 2 31 packed_unit x) }

@@ -11,7 +11,7 @@ use unpacking::NAR;
 use unpacking::scaled::{Scaled, scaled_of};
 
 // significand·2^scale with its sign, in the unit of `pack`; the leading one of the significand is at bit 62, and its lowest bit is 0. Clauses
-// speak of its fields: a definition over it would have to stand in `specs/` of this crate.
+// speak of its fields: a definition over it would have to stand in `specs/` of this crate, where what private clauses use may not stand.
 #[derive(Clone, Copy)]
 pub(crate) struct Term {
     pub(crate) negative: bool,

@@ -118,7 +118,7 @@ impl Q32E2 {
         self.0 = quire_steps::cleared();
     }
 
-    // Two names for two counts, which are the source's.
+    // Two names for two counts, which are the source's; the clauses are those of `quire_totals`.
     pub fn into_two_posits(self) -> [P32E2; 2]
         ensures { map (λ (p : P32E2). p.0) result ≡ parts_of 2 31 512 2 (from_words 512 self.0) }
     {

@@ -9,7 +9,7 @@ use unpacking::scaled::scaled_of;
 use unpacking::{NAR, either_nar};
 
 // NaR, or significand·2^shift with its sign, told one word below the accumulator's unit, in 2^-304: a significand is only moved up. Zero has the significand 0.
-// Clauses speak of its fields: a definition over it would have to stand in `specs/` of this crate.
+// Clauses speak of its fields: a definition over it would have to stand in `specs/` of this crate, where what private clauses use may not stand.
 // NaR is a flag: as an Option of an operand without it a product takes 1.06 times as long, and a pair of a batch 140 instructions for 132.
 #[derive(Clone, Copy)]
 pub(crate) struct Operand {
@@ -25,6 +25,7 @@ impl Operand {
     pub(crate) fn directed(self, added: bool) -> Operand
         ensures { (result.nar ≡ self.nar) × (result.negative ≡ beq self.negative added) × (result.shift ≡ self.shift) × (result.significand ≡ self.significand) }
     {
+        // each field, since there is no `..self` of a struct with a ghost field
         Operand {
             nar: self.nar,
             negative: self.negative == added,

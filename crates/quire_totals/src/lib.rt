@@ -27,7 +27,8 @@ pub fn to_posit(q: [u64; 8]) -> P32E2
     P32E2(round_size(negative, size_of(q)))
 }
 
-// The total in two parts, and in three, by the source's names. The clause is over the list of the patterns: one form for every count.
+// The total in two parts, and in three, by the source's names. The clause is over the list of the patterns: one form for every count, and
+// a name for it would be one more definition to believe.
 pub fn two_posits(q: [u64; 8]) -> [P32E2; 2]
     ensures { map (λ (p : P32E2). p.0) result ≡ parts_of 2 31 512 2 (from_words 512 q) }
 {

@@ -30,6 +30,7 @@ pub enum Operation {
 pub struct Unknown;
 
 impl Operation {
+    // In the order of their numbers: an array is the plainest map of nineteen.
     pub const ALL: [Operation; 19] = [
         Operation::PositNeg,
         Operation::PositAdd,
