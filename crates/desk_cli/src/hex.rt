@@ -1,4 +1,5 @@
 // Hexadecimal text: digits of either case, and what they spell.
+ghost use Rattle.std.specs.Prelude.{◌<◌, ◌≤◌, Some};
 ghost use Rattle.desk_cli.specs.Hex.{DigitOf};
 
 // The value of a hexadecimal digit of either case.
@@ -6,6 +7,15 @@ pub(crate) fn digit(c: u8) -> Option<u32>
     ensures { DigitOf c result }
 {
     char::from(c).to_digit(16)
+}
+
+// The lower-case digit of a value below 16.
+pub(crate) fn glyph(d: u8) -> char
+    requires { d < 16 }
+    ensures value { DigitOf result (Some d) }
+    ensures lower { 10 ≤ d → 97 ≤ result }
+{
+    char::from(if d < 10 { b'0' + d } else { b'a' - 10 + d })
 }
 
 // The number that up to eight digits spell.

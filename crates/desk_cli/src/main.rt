@@ -12,6 +12,8 @@
 // What is answered comes from `desk`: `check_claim` for a claim, `add_batch` from zero and `image_of` for an image.
 #![tactic(auto)]
 
+ghost use Rattle.std.specs.Prelude.{◌≤◌, IfOk, vec_len};
+
 use desk::batch::add_batch;
 use desk::claim::check_claim;
 use desk::image::image_of;
@@ -23,7 +25,7 @@ mod hex; // hex.rt: what hexadecimal digits spell
 mod lines; // lines.rt: lines, pairs, the claim's bytes
 mod words; // words.rt: what is printed
 
-use lines::{bytes_of, lines_of, pairs_of};
+use lines::{bytes_of, first_line, pairs_of};
 use words::{Answer, Fault, Trouble};
 
 // The length of the longest text, in bytes.
@@ -39,17 +41,19 @@ fn main(rt: HostRuntime) -> io::Result<()> {
 
 fn answer(alloc: Global, input: &mut impl Read) -> Result<Answer, Trouble> {
     let text = read_text(alloc, input)?;
-    let lines = lines_of(alloc, text.as_slice())?;
-    match lines.as_slice() {
-        [b"claim", rest @ ..] => judged(alloc, rest),
-        [b"image", rest @ ..] => imaged(alloc, rest),
+    let (word, items) = first_line(text.as_slice());
+    match word {
+        b"claim" => judged(alloc, items),
+        b"image" => imaged(alloc, items),
         _ => Err(Fault::NoWord.in_line(1)),
     }
 }
 
 // The input to its end, or to one byte more than the longest text. A failed read is no end: a batch would be cut short.
-fn read_text(alloc: Global, input: &mut impl Read) -> Result<Vec<u8>, Trouble> {
-    let mut text = Vec::new(alloc);
+fn read_text(alloc: Global, input: &mut impl Read) -> Result<Vec<u8>, Trouble>
+    ensures { IfOk result (λ text. vec_len text ≤ 400000) }
+{
+    let mut text = Vec::with_capacity(alloc, TEXT_LIMIT + 1)?;
     let n = input.take(TEXT_LIMIT as u64 + 1).read_to_end(&mut text)?;
     if n > TEXT_LIMIT {
         return Err(Trouble::TooLong);
@@ -58,9 +62,9 @@ fn read_text(alloc: Global, input: &mut impl Read) -> Result<Vec<u8>, Trouble> {
 }
 
 // The image of a batch that is added from zero.
-fn imaged(alloc: Global, lines: &[&[u8]]) -> Result<Answer, Trouble> {
-    let (a, b) = pairs_of(alloc, lines)?;
-    if a.len() < lines.len() {
+fn imaged(alloc: Global, items: &[u8]) -> Result<Answer, Trouble> {
+    let (a, b, rest) = pairs_of(alloc, items)?;
+    if !rest.is_empty() {
         return Err(Fault::NotPair.in_line(a.len() + 2));
     }
     let q = add_batch([0; 8], a.as_slice(), b.as_slice())?;
@@ -68,15 +72,18 @@ fn imaged(alloc: Global, lines: &[&[u8]]) -> Result<Answer, Trouble> {
 }
 
 // A claim, in the line behind the pairs.
-fn judged(alloc: Global, lines: &[&[u8]]) -> Result<Answer, Trouble> {
-    let (a, b) = pairs_of(alloc, lines)?;
+fn judged(alloc: Global, items: &[u8]) -> Result<Answer, Trouble> {
+    let (a, b, rest) = pairs_of(alloc, items)?;
     let number = a.len() + 2;
-    let line = lines.get(a.len()).ok_or(Fault::NoClaim.in_line(number))?;
+    if rest.is_empty() {
+        return Err(Fault::NoClaim.in_line(number));
+    }
+    let (line, after) = first_line(rest);
     let digits = line
         .strip_prefix(b"= ")
         .ok_or(Fault::NotClaim.in_line(number))?;
     let claim = bytes_of(alloc, digits)?.ok_or(Fault::NotBytes.in_line(number))?;
-    if a.len() + 1 < lines.len() {
+    if !after.is_empty() {
         return Err(Fault::TextAfterClaim.in_line(number + 1));
     }
     check_claim(a.as_slice(), b.as_slice(), claim.as_slice())?;

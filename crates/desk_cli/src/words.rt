@@ -1,4 +1,5 @@
 // What is printed: one line, the answer or what is wrong.
+use super::hex;
 use desk::refusal::Refusal;
 use std::alloc::AllocError;
 use std::{fmt, io};
@@ -16,7 +17,8 @@ impl fmt::Display for Answer {
             Answer::Right => write!(f, "right"),
             Answer::Image(image) => {
                 for byte in image {
-                    write!(f, "{byte:02x}")?;
+                    f.write_char(hex::glyph(byte / 16))?;
+                    f.write_char(hex::glyph(byte % 16))?;
                 }
                 Ok(())
             }
