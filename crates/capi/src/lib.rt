@@ -4,5 +4,4 @@
 
 pub mod accumulators; // accumulators.rt: eight words behind a reference
 pub mod claims; // claims.rt: the image, batches and claims
-mod numbers; // numbers.rt: the number of an answer
 pub mod posits; // posits.rt: patterns by value

@@ -1,6 +1,6 @@
-// When the desk says no, and the number of each refusal.
+// When the desk says no, and the number of each refusal and of an answer.
 ghost use Rattle.std.specs.Prelude.{◌≡◌};
-ghost use Rattle.desk.specs.Answers.{refusal_number};
+ghost use Rattle.desk.specs.Answers.{refusal_number, number_of};
 
 #[derive(Clone, Copy, Debug, PartialEq, Eq)]
 pub enum Refusal {
@@ -23,5 +23,15 @@ impl Refusal {
             Refusal::TooManyPairs => 4,
             Refusal::Differs => 5,
         }
+    }
+}
+
+// The number of an answer: that of its refusal, or 0.
+pub fn number_of(answer: Result<(), Refusal>) -> u32
+    ensures { result ≡ number_of answer }
+{
+    match answer {
+        Ok(()) => 0,
+        Err(refusal) => refusal.number(),
     }
 }

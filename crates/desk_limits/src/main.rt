@@ -7,7 +7,7 @@ ghost use Rattle.std.specs.Prelude.{◌<◌};
 use desk::claim::check_claim;
 use desk::image::{image_of, write_image};
 use desk::lent::{add_batch, read_image};
-use desk::refusal::Refusal;
+use desk::refusal::{Refusal, number_of};
 use quire32::Q32E2;
 use std::io;
 
@@ -125,8 +125,7 @@ fn nar_claims(rt: &impl Print) -> io::Result<()> {
     Ok(())
 }
 
-// The number of an answer, 0 for no refusal: one call here, where C's entries have a function of their own.
 fn say(rt: &impl Print, answer: Result<(), Refusal>) -> io::Result<()> {
-    let number = answer.map_or_else(Refusal::number, |_| 0);
+    let number = number_of(answer);
     println!(rt; "{number}")
 }

@@ -24,6 +24,9 @@ desk_check_claim_fixes = record { answers = λ κs a. tt; one = λ κs a x y u v
 pub desk_number_fixes : Fixes of_desk.refusal.Refusal.number.ended desk.refusal.Refusal.number.Reads.Pre desk.refusal.Refusal.number.Reads.Post
 desk_number_fixes = record { answers = λ κs a. tt; one = λ κs a x y u v p p'. (p ∙ sym p', refl) }
 
+pub desk_number_of_fixes : Fixes of_desk.refusal.number_of.ended desk.refusal.number_of.Reads.Pre desk.refusal.number_of.Reads.Post
+desk_number_of_fixes = record { answers = λ κs a. tt; one = λ κs a x y u v p p'. (p ∙ sym p', refl) }
+
 unfoldable pub desk_lent_write_image_fixes : FixesLent of_desk.lent.write_image.ended (λ M 𝓤 𝓛. of_desk.lent.write_image.clauses 𝓛)
 desk_lent_write_image_fixes = record { Post = _; says = λ M 𝓤 𝓛 mem run κs a g x s. refl; answers = λ M 𝓤 𝓛 mem run κs a. (tt, refl); fixes = record { answers = λ κs a. tt; one = λ κs a x y u v p p'. (desk_answer x y (p.0 ∙ sym p'.0) (λ _ _ _ _. refl), λ i. (u.0, ((p.1 ∙ sym p'.1) i, u.1.1))) } }
 

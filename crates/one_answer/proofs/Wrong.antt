@@ -11,6 +11,7 @@ use Rattle.posit.specs.Digits.{number}
 use Rattle.posit.specs.Accumulator.{words, from_words}
 use Rattle.desk.specs.Desk.{after_batch}
 use Rattle.quire_words.specs.Words.{wide}
+use Rattle.std.specs.Prelude.{Ok, Err}
 use Rattle.desk.specs.Answers.{number_of, after}
 use Rattle.desk.specs.declared.refusal.Refusal.TheVariants.{WrongLength, Differs}
 use Rattle.one_answer.specs.Engines.{NoConstant, NotAlways, Never, NotAsking, NotAskingLent}
@@ -18,7 +19,7 @@ use Rattle.one_answer.proofs.Engines.{differ, constant_fails, always_fails, neve
 use Rattle.one_answer.proofs.Arguments.{bits, to, eight, bytes, held, lent, to_mut, lent_mut}
 use Rattle.one_answer.proofs.Arithmetic.{p32e2_neg_fixes, p32e2_add_fixes, p32e2_sub_fixes, p32e2_mul_fixes, p32e2_div_fixes, p32e2_recip_fixes, p32e2_sqrt_fixes, p32e2_mul_add_fixes, p32e2_mul_sub_fixes, p32e2_sub_product_fixes}
 use Rattle.one_answer.proofs.Accumulator.{quire_steps_add_product_fixes, quire_steps_sub_product_fixes, quire_steps_add_posit_fixes, quire_steps_sub_posit_fixes, quire_steps_neg_fixes, quire_steps_q_add_q_fixes, quire_steps_q_sub_q_fixes, quire_steps_from_posit_fixes, quire_totals_to_posit_fixes, quire32_add_product_fixes, quire32_sub_product_fixes, quire32_add_posit_fixes, quire32_sub_posit_fixes, quire32_q_add_q_fixes, quire32_q_sub_q_fixes}
-use Rattle.one_answer.proofs.Desk.{desk_image_of_fixes, desk_write_image_fixes, desk_read_image_fixes, desk_add_batch_fixes, desk_check_claim_fixes, desk_number_fixes, desk_lent_write_image_fixes, desk_lent_read_image_fixes, desk_lent_add_batch_fixes}
+use Rattle.one_answer.proofs.Desk.{desk_image_of_fixes, desk_write_image_fixes, desk_read_image_fixes, desk_add_batch_fixes, desk_check_claim_fixes, desk_number_fixes, desk_number_of_fixes, desk_lent_write_image_fixes, desk_lent_read_image_fixes, desk_lent_add_batch_fixes}
 use Rattle.one_answer.proofs.Linked.{capi_neg_fixes}
 
 -- ---- the same every time: NaR, or a posit, or anything else
@@ -114,6 +115,10 @@ desk_check_claim_not_constant = constant_fails _ (λ κs a x u p. p) ([], ([], (
 -- the same number for every refusal
 pub desk_number_not_constant : NoConstant desk_number_fixes (λ κs a r u. r)
 desk_number_not_constant = constant_fails _ (λ κs a x u p. p) tt (WrongLength, tt) (Differs, tt) tt tt tt
+
+-- the same number for every answer, refused or not
+pub desk_number_of_not_constant : NoConstant desk_number_of_fixes (λ κs a r u. r)
+desk_number_of_not_constant = constant_fails _ (λ κs a x u p. p) tt (Ok tt, tt) (Err Differs, tt) tt tt tt
 
 -- ---- a claim check that accepts every claim of the right length
 pub desk_check_claim_not_lax : NotAlways desk_check_claim_fixes (λ κs a r u. number_of r) (λ κs a. length a.1.1.0.now ≡ 64) (λ κs a. 0)

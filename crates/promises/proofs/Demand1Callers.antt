@@ -129,10 +129,11 @@ pub desk_asks_nothing :
     × Answers of_desk.batch.add_batch.ended desk.batch.add_batch.Reads.Pre
     × Answers of_desk.claim.check_claim.ended desk.claim.check_claim.Reads.Pre
     × Answers of_desk.refusal.Refusal.number.ended desk.refusal.Refusal.number.Reads.Pre
+    × Answers of_desk.refusal.number_of.ended desk.refusal.number_of.Reads.Pre
     × AnswersLent of_desk.lent.write_image.ended (λ M 𝓤 𝓛. of_desk.lent.write_image.clauses 𝓛)
     × AnswersLent of_desk.lent.read_image.ended (λ M 𝓤 𝓛. of_desk.lent.read_image.clauses 𝓛)
     × AnswersLent of_desk.lent.add_batch.ended (λ M 𝓤 𝓛. of_desk.lent.add_batch.clauses 𝓛)
-desk_asks_nothing = (λ κs a. tt, λ κs a. tt, λ κs a. tt, λ κs a. tt, λ κs a. tt, λ κs a. tt, λ M 𝓤 𝓛 mem run κs a. (tt, refl), λ M 𝓤 𝓛 mem run κs a. (tt, refl), λ M 𝓤 𝓛 mem run κs a. (tt, refl))
+desk_asks_nothing = (λ κs a. tt, λ κs a. tt, λ κs a. tt, λ κs a. tt, λ κs a. tt, λ κs a. tt, λ κs a. tt, λ M 𝓤 𝓛 mem run κs a. (tt, refl), λ M 𝓤 𝓛 mem run κs a. (tt, refl), λ M 𝓤 𝓛 mem run κs a. (tt, refl))
 
 pub capi_posits_asks_nothing :
     Answers of_capi.posits.stallhitch_p32e2_neg.ended capi.posits.stallhitch_p32e2_neg.Reads.Pre
