@@ -18,13 +18,15 @@
 #     asks, ensures          1 where it has a `requires` or a `ghost` clause, and where it has an `ensures`
 #     clauses, code          the text of its clauses, and the tokens of its body with a blank before and after each
 #     signature, stated      the tokens from its name to its result's type; its clauses once more, each with its word and its name
+#     derives                the text of the `derive` above a type, without blanks
 # Of a type, by "crate::Type": type_home is the module in which it is declared, type_visible who can see it, and type_parts the tokens of its fields.
 
-# What the language itself derives. Of a public type that makes functions which anyone can call. They are the language's own: each is total, asks nothing, and says what it
-# answers by the type's fields. A `derive` of another name is a macro, which may write anything.
+# What the language itself derives; a `derive` of another name is a macro, which may write anything. Of a public type it makes functions that anyone can call. Of the text that
+# `Debug` writes the language's contract says nothing, and what an order, a hash or a default value answers nobody here tells; so in a library no public type has these.
 BEGIN {
     derivable = "(Drop|Clone|Copy|PartialEq|Eq|PartialOrd|Ord|Hash|Debug|Default)"
     own_derives = "^derive[(]" derivable "(," derivable ")*,?[)]$"
+    untold_derives = "[(,](PartialOrd|Ord|Hash|Debug|Default)[,)]"
     trait_path = "[A-Za-z_][A-Za-z0-9_]*( : : [A-Za-z_][A-Za-z0-9_]*)*"
     trait_impl = "^impl (< [A-Za-z0-9_:,' ]* > )?" trait_path "( < [][A-Za-z0-9_<>:;,&' ]* >)? for [A-Z][A-Za-z0-9_]*( < [A-Za-z0-9_,' ]* >)? [{]$"
 }
@@ -233,12 +235,14 @@ function inner_attribute(    i, attribute) {
 function parse_head(    i, attribute, no_mangle, as_c) {
     exported = no_mangle = as_c = 0
     visible = "own"
+    derives = ""
     for (i = 1; head[i] == "#" && head[i + 1] == "["; i++) {
         attribute = ""
         for (i += 2; i < words && head[i] != "]"; i++) attribute = attribute head[i]
         if (attribute ~ /^(unsafe[(]no_mangle[)]|no_mangle)$/) exported = no_mangle = 1
         else if (attribute ~ /^(unsafe[(])?export_name=/) exported = 1
-        else if (attribute !~ /^tactic[(]/ && attribute !~ own_derives) unread("the attribute `" attribute "`")
+        else if (attribute ~ own_derives) derives = derives attribute
+        else if (attribute !~ /^tactic[(]/) unread("the attribute `" attribute "`")
     }
     if (head[i] == "pub") visible = "pub"
     if (head[i] == "pub" && head[++i] == "(") {
@@ -249,6 +253,7 @@ function parse_head(    i, attribute, no_mangle, as_c) {
     if (head[i] == "const" && head[i + 1] == "fn") i++
     if (head[i] == "extern" && head[i + 1] == "\"C\"" && head[i + 2] == "fn") { exported = as_c = 1; i += 2 }
     public = exported || visible == "pub"
+    if (public && !program && derives ~ untold_derives) unread("`" derives "` of a public type in a library")
     for_linkers = visible == "pub" && no_mangle && as_c
     kind = head[i]
     name = head[i + 1]

@@ -57,6 +57,17 @@ function import_read(text) {
 function item_read() {
     if (crate in static) fault(at ": `" kind "` in a static library is not read here")
     if (kind == "use") renames_read()
+    else if (public && !program && derives ~ /[(,]PartialEq[,)]/) equality_read()
+}
+
+# the `==` that a public type of a library derives: a public function, whose contract is the language's and whose code is nobody's
+function equality_read() {
+    f = crate "::" name "::eq"
+    if (f in crate_of) fault(f " stands twice: their names have to differ")
+    crate_of[f] = crate
+    type_of[f] = name
+    name_of[f] = "eq"
+    derived[f] = 1
 }
 
 # a type under another name counts as one that holds it
@@ -159,13 +170,13 @@ function judge_export(e,    library, path, f, given, names) {
     if (exported_code[e] != " " library " : : " given " ( " names (names == "" ? "" : " ") ") ") fault(exports[e] ": " e " does something else than to hand over to " f)
 }
 
-# the path of a function's contract below the proofs of its crate: a method stands where its type is declared
+# the path of a function's contract below the proofs of its crate: a method stands where its type is declared, and one that is derived under the type's name and the trait's
 function path_of(f,    place) {
     place = module_of[f]
     if (type_of[f] != "") {
         if (!((crate_of[f] "::" type_of[f]) in type_home)) fault(f " is a method of a type that is not declared in its crate")
         place = type_home[crate_of[f] "::" type_of[f]]
-        place = (place == "" ? "" : place ".") type_of[f]
+        place = (place == "" ? "" : place ".") type_of[f] (f in derived ? "PartialEq" : "")
     }
     return (place == "" ? "" : place ".") name_of[f]
 }
@@ -181,6 +192,7 @@ function judge_generated(f,    path, proofs, specs) {
     for (; path != ""; sub(/\/?[^\/]*$/, "", path)) {
         if (stands(proofs path ".antt")) fault(proofs path ".antt has the name of a generated module")
         if (stands(specs "/" path ".antt")) fault(specs "/" path ".antt has the name of a generated module")
+        if (stands(specs "/" path "/TheImpl.antt")) fault(specs "/" path "/TheImpl.antt has the name of a generated module")
     }
 }
 
@@ -391,7 +403,7 @@ function judge_row(f,    n, i, wrong) {
         judge_wrong(f, wrong[i])
         if (told[f, wrong[i]]++) fault(f " has the wrong answer " wrong[i] " twice")
     }
-    if (!has_edit(f, 9)) fault(f " has no wrong edit in docs/ONE-ANSWER.md")
+    if (!(f in derived) && !has_edit(f, 9)) fault(f " has no wrong edit in docs/ONE-ANSWER.md")
 }
 
 function judge_function(f,    theorem, contract, told_of) {

@@ -1,6 +1,6 @@
 -- One promise, one answer, of every public function on posits and their patterns. The statement is `Fixes` (Fixes.antt); p and p' say that two results meet the contract.
 use mathlib.Core.Path.{refl, sym, ◌∙◌}
-use Rattle.one_answer.specs.Fixes.{Fixes}
+use Rattle.one_answer.specs.Fixes.{Fixes, FixesLent}
 use Rattle.one_answer.proofs.Determined.{unpacked, scaled_one}
 use Rattle.rounding.specs.contracts as of_rounding
 use Rattle.rounding.proofs as rounding
@@ -28,6 +28,9 @@ unpacking_either_nar_fixes = record { answers = λ κs a. tt; one = λ κs a x y
 
 pub unpacking_scaled_of_fixes : Fixes of_unpacking.scaled.scaled_of.ended unpacking.scaled.scaled_of.Reads.Pre unpacking.scaled.scaled_of.Reads.Post
 unpacking_scaled_of_fixes = record { answers = λ κs a. tt; one = λ κs a x y u v p p'. let e = scaled_one a.0 x.scale y.scale x.significand y.significand p p' in (λ i. record { scale = e.0 i; significand = e.1 i }, refl) }
+
+unfoldable pub unpacking_eq_fixes : FixesLent of_unpacking.UnpackedPartialEq.eq.ended (λ M 𝓤 𝓛. of_unpacking.UnpackedPartialEq.eq.clauses 𝓛)
+unpacking_eq_fixes = record { Post = _; says = λ M 𝓤 𝓛 mem run κs a g x s. refl; answers = λ M 𝓤 𝓛 mem run κs a. (tt, refl); fixes = record { answers = λ κs a. tt; one = λ κs a x y u v p p'. (p ∙ sym p', refl) } }
 
 -- ---- exact_terms
 pub exact_terms_add_fixes : Fixes of_exact_terms.add.ended exact_terms.add.Reads.Pre exact_terms.add.Reads.Post
@@ -92,3 +95,6 @@ p32e2_mul_fixes = record { answers = λ κs a. tt; one = λ κs a x y u v p p'. 
 
 pub p32e2_div_fixes : Fixes of_p32e2.P32E2.div.ended p32e2.P32E2.div.Reads.Pre p32e2.P32E2.div.Reads.Post
 p32e2_div_fixes = record { answers = λ κs a. tt; one = λ κs a x y u v p p'. (λ i. record { 0 = (p ∙ sym p') i }, refl) }
+
+unfoldable pub p32e2_eq_fixes : FixesLent of_p32e2.P32E2PartialEq.eq.ended (λ M 𝓤 𝓛. of_p32e2.P32E2PartialEq.eq.clauses 𝓛)
+p32e2_eq_fixes = record { Post = _; says = λ M 𝓤 𝓛 mem run κs a g x s. refl; answers = λ M 𝓤 𝓛 mem run κs a. (tt, refl); fixes = record { answers = λ κs a. tt; one = λ κs a x y u v p p'. (p ∙ sym p', refl) } }

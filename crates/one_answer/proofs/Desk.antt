@@ -35,3 +35,6 @@ desk_lent_read_image_fixes = record { Post = _; says = λ M 𝓤 𝓛 mem run κ
 
 unfoldable pub desk_lent_add_batch_fixes : FixesLent of_desk.lent.add_batch.ended (λ M 𝓤 𝓛. of_desk.lent.add_batch.clauses 𝓛)
 desk_lent_add_batch_fixes = record { Post = _; says = λ M 𝓤 𝓛 mem run κs a g x s. refl; answers = λ M 𝓤 𝓛 mem run κs a. (tt, refl); fixes = record { answers = λ κs a. tt; one = λ κs a x y u v p p'. (desk_answer x y (p.0 ∙ sym p'.0) (λ _ _ _ _. refl), λ i. (record { 0 = (p.1 ∙ sym p'.1) i }, u.1)) } }
+
+unfoldable pub desk_refusal_eq_fixes : FixesLent of_desk.refusal.RefusalPartialEq.eq.ended (λ M 𝓤 𝓛. of_desk.refusal.RefusalPartialEq.eq.clauses 𝓛)
+desk_refusal_eq_fixes = record { Post = _; says = λ M 𝓤 𝓛 mem run κs a g x s. refl; answers = λ M 𝓤 𝓛 mem run κs a. (tt, refl); fixes = record { answers = λ κs a. tt; one = λ κs a x y u v p p'. (p ∙ sym p', refl) } }

@@ -11,14 +11,17 @@ use Rattle.posit.specs.Pattern.{nar, opposite}
 use Rattle.posit.specs.Operation.{sum, difference, product, quotient, fused_sum, fused_difference}
 use Rattle.posit.specs.Accumulator.{is_not_real, is_clear, of_posit, of_product, plus, minus, negated, to_posit, words, from_words}
 use Rattle.desk.specs.Desk.{after_batch}
+use Rattle.unpacking.specs.declared.Unpacked.TheVariants.{Zero, NaR}
 use Rattle.p32e2.specs.declared.P32E2.{P32E2}
 use Rattle.quire_words.specs.Words.{wide}
 use Rattle.quire_steps.specs.Sign.{sign_off}
+use Rattle.desk.specs.declared.refusal.Refusal.TheVariants.{WrongLength, Differs}
 use Rattle.one_answer.specs.Engines.{NoConstant, NotAlways, Never}
 use Rattle.one_answer.proofs.Engines.{constant_fails, always_fails, never}
 use Rattle.one_answer.proofs.Arguments.{bits, to, eight, bytes, held, lent, to_mut, lent_mut}
-use Rattle.one_answer.proofs.Arithmetic.{p32e2_from_bits_fixes, p32e2_to_bits_fixes, p32e2_is_zero_fixes, p32e2_is_nar_fixes}
+use Rattle.one_answer.proofs.Arithmetic.{unpacking_eq_fixes, p32e2_from_bits_fixes, p32e2_to_bits_fixes, p32e2_is_zero_fixes, p32e2_is_nar_fixes, p32e2_eq_fixes}
 use Rattle.one_answer.proofs.Accumulator.{quire32_init_fixes, quire32_from_bits_fixes, quire32_from_posit_fixes, quire32_to_bits_fixes, quire32_to_posit_fixes, quire32_is_zero_fixes, quire32_is_nar_fixes, quire32_neg_fixes, quire32_q_abs_fixes, quire32_clear_fixes, quire32_into_two_posits_fixes, quire32_into_three_posits_fixes}
+use Rattle.one_answer.proofs.Desk.{desk_refusal_eq_fixes}
 use Rattle.one_answer.proofs.Linked.{capi_neg_fixes, capi_add_fixes, capi_sub_fixes, capi_mul_fixes, capi_div_fixes, capi_recip_fixes, capi_sqrt_fixes, capi_mul_add_fixes, capi_mul_sub_fixes, capi_sub_product_fixes, capi_q_clear_fixes, capi_q_add_product_fixes, capi_q_sub_product_fixes, capi_q_add_posit_fixes, capi_q_sub_posit_fixes, capi_q_neg_fixes, capi_q_abs_fixes, capi_q_add_q_fixes, capi_q_sub_q_fixes, capi_q_to_posit_fixes, capi_q_is_zero_fixes, capi_q_is_nar_fixes, capi_write_image_fixes, capi_read_image_fixes, capi_add_batch_fixes, capi_check_claim_fixes}
 
 -- ---- P32E2: the same every time, or the other question
@@ -33,6 +36,31 @@ p32e2_is_zero_not_is_nar = never _ (λ κs a x u p. ap bool_byte p) tt (bits 0, 
 
 pub p32e2_is_nar_not_is_zero : Never p32e2_is_nar_fixes (λ κs a r u. bool_byte r) (λ κs a. bool_byte (eqb a.0.0 0))
 p32e2_is_nar_not_is_zero = never _ (λ κs a x u p. ap bool_byte p) tt (bits 0, tt) tt tt
+
+-- ---- a derived `==`: the same every time, or a value is other than itself, as NaN is among floats
+pub unpacking_eq_not_constant : NoConstant unpacking_eq_fixes.fixes (λ κs a r u. bool_byte r)
+unfolding unpacking_eq_fixes
+unpacking_eq_not_constant = constant_fails _ (λ κs a x u p. ap bool_byte p) ([], ([], tt)) (to NaR, (to NaR, tt)) (to NaR, (to Zero, tt)) tt tt tt
+
+pub unpacking_eq_not_irreflexive : NotAlways unpacking_eq_fixes.fixes (λ κs a r u. bool_byte r) (λ κs a. a.0.now ≡ a.1.0.now) (λ κs a. 0)
+unfolding unpacking_eq_fixes
+unpacking_eq_not_irreflexive = always_fails _ (λ κs a x u p. ap bool_byte p) ([], ([], tt)) (to NaR, (to NaR, tt)) tt refl tt
+
+pub p32e2_eq_not_constant : NoConstant p32e2_eq_fixes.fixes (λ κs a r u. bool_byte r)
+unfolding p32e2_eq_fixes
+p32e2_eq_not_constant = constant_fails _ (λ κs a x u p. ap bool_byte p) ([], ([], tt)) (to (bits 0x80000000), (to (bits 0x80000000), tt)) (to (bits 0x80000000), (to (bits 0), tt)) tt tt tt
+
+pub p32e2_eq_not_irreflexive : NotAlways p32e2_eq_fixes.fixes (λ κs a r u. bool_byte r) (λ κs a. a.0.now ≡ a.1.0.now) (λ κs a. 0)
+unfolding p32e2_eq_fixes
+p32e2_eq_not_irreflexive = always_fails _ (λ κs a x u p. ap bool_byte p) ([], ([], tt)) (to (bits 0x80000000), (to (bits 0x80000000), tt)) tt refl tt
+
+pub desk_refusal_eq_not_constant : NoConstant desk_refusal_eq_fixes.fixes (λ κs a r u. bool_byte r)
+unfolding desk_refusal_eq_fixes
+desk_refusal_eq_not_constant = constant_fails _ (λ κs a x u p. ap bool_byte p) ([], ([], tt)) (to WrongLength, (to WrongLength, tt)) (to WrongLength, (to Differs, tt)) tt tt tt
+
+pub desk_refusal_eq_not_irreflexive : NotAlways desk_refusal_eq_fixes.fixes (λ κs a r u. bool_byte r) (λ κs a. a.0.now ≡ a.1.0.now) (λ κs a. 0)
+unfolding desk_refusal_eq_fixes
+desk_refusal_eq_not_irreflexive = always_fails _ (λ κs a x u p. ap bool_byte p) ([], ([], tt)) (to WrongLength, (to WrongLength, tt)) tt refl tt
 
 -- ---- Q32E2
 pub quire32_init_not_one : Never quire32_init_fixes (λ κs a r u. wide r.0) (λ κs a. 2 ^ 240)

@@ -12,7 +12,7 @@ ghost use Rattle.unpacking.specs.Unpacked.{meaning};
 
 pub use unpacking::Unpacked;
 
-#[derive(Clone, Copy, Debug, PartialEq, Eq)]
+#[derive(Clone, Copy, PartialEq, Eq)]
 pub struct P32E2(pub u32);
 
 impl P32E2 {

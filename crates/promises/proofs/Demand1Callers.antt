@@ -34,7 +34,8 @@ pub unpacking_asks_nothing :
     Answers of_unpacking.unpack.ended unpacking.unpack.Reads.Pre
     × Answers of_unpacking.either_nar.ended unpacking.either_nar.Reads.Pre
     × Answers of_unpacking.scaled.scaled_of.ended unpacking.scaled.scaled_of.Reads.Pre
-unpacking_asks_nothing = (λ κs a. tt, λ κs a. tt, λ κs a. tt)
+    × AnswersLent of_unpacking.UnpackedPartialEq.eq.ended (λ M 𝓤 𝓛. of_unpacking.UnpackedPartialEq.eq.clauses 𝓛)
+unpacking_asks_nothing = (λ κs a. tt, λ κs a. tt, λ κs a. tt, λ M 𝓤 𝓛 mem run κs a. (tt, refl))
 
 pub exact_terms_asks_nothing :
     Answers of_exact_terms.add.ended exact_terms.add.Reads.Pre
@@ -66,7 +67,8 @@ pub p32e2_asks_nothing :
     × Answers of_p32e2.P32E2.sub.ended p32e2.P32E2.sub.Reads.Pre
     × Answers of_p32e2.P32E2.mul.ended p32e2.P32E2.mul.Reads.Pre
     × Answers of_p32e2.P32E2.div.ended p32e2.P32E2.div.Reads.Pre
-p32e2_asks_nothing = (λ κs a. tt, λ κs a. tt, λ κs a. tt, λ κs a. tt, λ κs a. tt, λ κs a. tt, λ κs a. tt, λ κs a. tt, λ κs a. tt, λ κs a. tt, λ κs a. tt, λ κs a. tt, λ κs a. tt, λ κs a. tt, λ κs a. tt)
+    × AnswersLent of_p32e2.P32E2PartialEq.eq.ended (λ M 𝓤 𝓛. of_p32e2.P32E2PartialEq.eq.clauses 𝓛)
+p32e2_asks_nothing = (λ κs a. tt, λ κs a. tt, λ κs a. tt, λ κs a. tt, λ κs a. tt, λ κs a. tt, λ κs a. tt, λ κs a. tt, λ κs a. tt, λ κs a. tt, λ κs a. tt, λ κs a. tt, λ κs a. tt, λ κs a. tt, λ κs a. tt, λ M 𝓤 𝓛 mem run κs a. (tt, refl))
 
 pub quire_words_asks_nothing :
     Answers of_quire_words.add_word.ended quire_words.add_word.Reads.Pre
@@ -121,6 +123,10 @@ pub quire32_asks_nothing :
     × AnswersLent of_quire32.Q32E2.qSubQ.ended (λ M 𝓤 𝓛. of_quire32.Q32E2.qSubQ.clauses 𝓛)
     × AnswersLent of_quire32.Q32E2.clear.ended (λ M 𝓤 𝓛. of_quire32.Q32E2.clear.clauses 𝓛)
 quire32_asks_nothing = (λ κs a. tt, λ κs a. tt, λ κs a. tt, λ κs a. tt, λ κs a. tt, λ M 𝓤 𝓛 mem run κs a. (tt, refl), λ M 𝓤 𝓛 mem run κs a. (tt, refl), λ M 𝓤 𝓛 mem run κs a. (tt, refl), λ M 𝓤 𝓛 mem run κs a. (tt, refl), λ M 𝓤 𝓛 mem run κs a. (tt, refl), λ M 𝓤 𝓛 mem run κs a. (tt, refl), λ M 𝓤 𝓛 mem run κs a. (tt, refl), λ M 𝓤 𝓛 mem run κs a. (tt, refl), λ M 𝓤 𝓛 mem run κs a. (tt, refl), λ M 𝓤 𝓛 mem run κs a. (tt, refl), λ M 𝓤 𝓛 mem run κs a. (tt, refl), λ M 𝓤 𝓛 mem run κs a. (tt, refl), λ M 𝓤 𝓛 mem run κs a. (tt, refl))
+
+pub desk_refusal_asks_nothing :
+    AnswersLent of_desk.refusal.RefusalPartialEq.eq.ended (λ M 𝓤 𝓛. of_desk.refusal.RefusalPartialEq.eq.clauses 𝓛)
+desk_refusal_asks_nothing = λ M 𝓤 𝓛 mem run κs a. (tt, refl)
 
 pub desk_asks_nothing :
     Answers of_desk.image.image_of.ended desk.image.image_of.Reads.Pre

@@ -15,7 +15,7 @@ use unsigned::Unsigned;
 pub const NAR: u32 = 0x8000_0000;
 
 // What a pattern is: zero, NaR, or the sign (true below 0), the regime k, the exponent e, and the significand with its leading one at bit 30.
-#[derive(Clone, Copy, Debug, PartialEq, Eq)]
+#[derive(Clone, Copy, PartialEq, Eq)]
 pub enum Unpacked {
     Zero,
     NaR,
