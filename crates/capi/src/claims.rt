@@ -1,5 +1,6 @@
 // The desk: the number of the refusal is the answer, 0 for none. What was lent is as it was wherever a number is answered, and nothing is stored there. Two entries take an
-// accumulator's words and store the answer's each by itself: a closure over the `&mut` in the place of the call would need clauses of its own.
+// accumulator's words and store the answer's each by itself: a closure over the `&mut` in the place of the call would need clauses of its own. `Q32E2(*q).to_bits()` is `*q`: of what
+// a call gives, the check knows that it is eight words of 64 bits, as the words that a refusal leaves have to be (docs/DECISIONS.md).
 ghost use Rattle.std.specs.Prelude.{◌≡◌};
 ghost use Rattle.posit.specs.Accumulator.{words, from_words};
 ghost use Rattle.desk.specs.Desk.{length_refusal, buffer_refusal, batch_refusal, claim_refusal, written_to, read_into, after_batch};
